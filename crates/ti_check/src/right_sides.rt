@@ -7,7 +7,7 @@ ghost use Rattle.ti_lang.specs.Program.Views.{expression_of, type_use_of, extent
 ghost use Rattle.ti_lang.specs.Typing.Expressions.{and_then_both};
 ghost use Rattle.ti_lang.specs.Typing.TyRef.{ty_view};
 ghost use Rattle.ti_rules.specs.Mirrors.First.{earliest, earlier_of as sooner_of};
-ghost use Rattle.ti_rules.specs.InitialTypes.{can_broadcast, broadcast_type, region_type, is_region_type, object_type, grid_over, spread, new_grid_type, initial_type};
+ghost use Rattle.ti_rules.specs.InitialTypes.{can_broadcast, broadcast_type, region_type, is_region_type, object_type, grid_over, dims_spread, new_grid_type, initial_type};
 ghost use Rattle.ti_rules.specs.Broken.Refused.{judged, both_judged, operand_refusal as mistaken_at};
 ghost use Rattle.ti_rules.specs.Broken.RightSides.{region_refusals, dims_refusals, one_dim_spread, initial_refusals};
 ghost use Rattle.ti_types.specs.Results.{LiteralTypes, literal_of};
@@ -212,7 +212,7 @@ impl<'a> CheckContext<'a> {
     fn spread(self, dims: &'a Dims) -> GridExtent<'a>
         ensures first { result.first ≡ earliest (dims_refusals (program_at self.entry) (scope_at self.entry) (extent_of dims.now)) }
         ensures types { option_map literal_of result.types ≡ option_map extent_summary
-            (spread (program_at self.entry) (scope_at self.entry) (extent_of dims.now)) }
+            (dims_spread (program_at self.entry) (scope_at self.entry) (extent_of dims.now)) }
     {
         match dims {
             Dims::Domain(e) => {

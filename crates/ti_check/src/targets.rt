@@ -3,9 +3,9 @@ ghost use Rattle.std.specs.Prelude.{◌≡◌, false};
 ghost use Rattle.std.specs.Option.{option_map, option_map_or, option_and_then};
 ghost use Rattle.ti_lang.specs.Program.Views.{program_of, expression_of};
 ghost use Rattle.ti_lang.specs.Typing.Declared.{field_type};
-ghost use Rattle.ti_lang.specs.Typing.Kinds.{is_point};
+ghost use Rattle.ti_lang.specs.Typing.Kinds.{is_point_type};
 ghost use Rattle.ti_lang.specs.Typing.TyRef.{ty_view};
-ghost use Rattle.ti_rules.specs.Broken.Targets.{is_foreach_variable, is_coordinate, maybe_local, hidden_field, hidden_element, is_hidden_local};
+ghost use Rattle.ti_rules.specs.Broken.Targets.{is_foreach_variable, is_point_coordinate, maybe_local, hidden_field, hidden_element, is_hidden_local};
 ghost use Rattle.ti_check.specs.Mirrors.Contexts.{program_at, scope_at};
 ghost use Rattle.ti_check.specs.Mirrors.Targets.{write_refusal};
 
@@ -31,7 +31,7 @@ fn is_foreach_variable(target: &Expr) -> bool
 }
 
 fn is_point(ty: Option<TyRef>) -> bool
-    ensures { result ≡ option_map_or is_point (option_map ty_view ty.entry) false }
+    ensures { result ≡ option_map_or is_point_type (option_map ty_view ty.entry) false }
 {
     matches!(ty, Some(TyRef::Pt(_)))
 }
@@ -88,7 +88,7 @@ impl<'a> CheckContext<'a> {
     // Whether the target is a coordinate of a point.
     #[tactic(auto, using(ti_lang::proofs::Lemmas::program_bridges))]
     fn is_coordinate(self, target: &'a Expr) -> bool
-        ensures { result ≡ is_coordinate (program_at self.entry) (scope_at self.entry) (expression_of target.now) }
+        ensures { result ≡ is_point_coordinate (program_at self.entry) (scope_at self.entry) (expression_of target.now) }
     {
         match target {
             Expr::Index { receiver, .. } => is_point(self.target(deref_expr(receiver)).ty),

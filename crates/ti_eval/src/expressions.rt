@@ -10,7 +10,7 @@ ghost use Rattle.ti_lang.specs.Program.Types.{ValueType};
 ghost use Rattle.ti_lang.specs.Program.Expressions.{numbered_exps, numbered_ranges};
 ghost use Rattle.ti_lang.specs.Program.Expressions as form;
 ghost use Rattle.ti_lang.specs.Program.Views.{expression_of, bound_of, type_use_of, variable_of};
-ghost use Rattle.ti_lang.specs.Typing.Kinds.{is_point as is_point_spec};
+ghost use Rattle.ti_lang.specs.Typing.Kinds.{is_point_type as is_point_spec};
 ghost use Rattle.ti_lang.specs.Typing.TyRef.{built_in_of};
 ghost use Rattle.ti_lang.specs.Meaning.Scoping.{type_of as type_of_spec, value_by};
 ghost use Rattle.ti_lang.specs.Meaning.Held.{Held as Seen, Plain};
@@ -204,7 +204,7 @@ fn with_arguments<'a>(
 ) -> Evaluated<'a, VarValue>
     ensures { (type through : ValueType) → Comes result (bind_result (evaluation.eval_all (env_of env.now)
         (numbered_exps (map expression_of args.now)) answers.now)
-        (λ hs. forms.member place type (option_map built_in_of called) through value.now hs)) }
+        (λ hs. forms.member_value place type (option_map built_in_of called) through value.now hs)) }
 {
     let (hs, answers) = evaluate_all(alloc, env, args, answers)?;
     member(place, called, value, &hs, answers)

@@ -194,7 +194,7 @@ pub fn member<'a>(
     args: &[VarValue],
     answers: &'a [CanonicalAnswer],
 ) -> Evaluated<'a, VarValue>
-    ensures { (type through : ValueType) → Comes result (forms.member place type
+    ensures { (type through : ValueType) → Comes result (forms.member_value place type
         (option_map built_in_of built_in) through value.now args.now answers.now) }
 {
     let Some(built_in) = built_in else {

@@ -7,19 +7,19 @@ use Rattle.ti_heap.specs.declared.allocation.Allocation.TheVariants.{Gone}
 use Rattle.std.specs.List.{slice_get}
 use Rattle.std.proofs.lemmas.Option.{slice_get_read, slice_get_within}
 use Rattle.ti_heap.specs.Contents.{Made}
-use Rattle.ti_heap.specs.Things.{made_of, cost_of, total_cost}
+use Rattle.ti_heap.specs.Things.{made_of, allocation_cost, total_cost}
 
-pub cost_set : (xs : List Allocation) (i : ℕ) (t y : Allocation) → i < length xs → t ≡ get_or xs i t → total_cost (set xs i y) + cost_of t ≡ total_cost xs + cost_of y
+pub cost_set : (xs : List Allocation) (i : ℕ) (t y : Allocation) → i < length xs → t ≡ get_or xs i t → total_cost (set xs i y) + allocation_cost t ≡ total_cost xs + allocation_cost y
 cost_set xs i t y h e =
     let costs : List Made → ℕ = sum_by (λ (m : Made). m.cost) in
     let one : get_or (map made_of xs) i (made_of t) ≡ made_of t = get_or-map made_of xs i t (made_of t) h ∙ ap made_of (sym e) in
     let s = sum_by-set (λ (m : Made). m.cost) (map made_of xs) i (made_of y) (made_of t) (omega (arith, length-map xs made_of)) in
     let f : total_cost (set xs i y) ≡ costs (set (map made_of xs) i (made_of y)) = ap costs (map-set made_of xs i y) in
-    let g : (get_or (map made_of xs) i (made_of t)).cost ≡ cost_of t = ap (λ (m : Made). m.cost) one in
+    let g : (get_or (map made_of xs) i (made_of t)).cost ≡ allocation_cost t = ap (λ (m : Made). m.cost) one in
     omega arith
 
 -- a thing costs no more than all of them
-pub cost_within : (xs : List Allocation) (i : ℕ) (t : Allocation) → i < length xs → t ≡ get_or xs i t → cost_of t ≤ total_cost xs
+pub cost_within : (xs : List Allocation) (i : ℕ) (t : Allocation) → i < length xs → t ≡ get_or xs i t → allocation_cost t ≤ total_cost xs
 cost_within xs i t h e = let c = cost_set xs i t Gone h e in omega arith
 
 pub some_and : {A : Type 0} (o : Option A) (P : A → Type 0) → IsSomeAnd o P → (x : A) × (o ≡ Some x) × P x

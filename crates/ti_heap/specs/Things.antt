@@ -33,8 +33,8 @@ made_of (Block whole elements) = record { region = whole.block.region; cost = 1 
 made_of (ViewOf view) = record { region = view.block.region; cost = 1 }
 made_of Gone = record { region = 0; cost = 0 }
 
-abbrev pub cost_of : Allocation → ℕ
-cost_of t = (made_of t).cost
+abbrev pub allocation_cost : Allocation → ℕ
+allocation_cost t = (made_of t).cost
 
 -- the view of a block that it is, if it is a grid
 abbrev pub layout_of : Allocation → Option Layout

@@ -1,7 +1,7 @@
 // A heap object: an object, a block of elements or a view.
 
 ghost use Rattle.std.specs.Prelude.{◌≡◌, ◌+◌, ◌<◌, length, slice_get, Some, if◌then◌else◌, ◌==◌, []};
-ghost use Rattle.ti_heap.specs.Things.{values_of, allocation_region, cost_of, put_in, drop_if_in, values_in};
+ghost use Rattle.ti_heap.specs.Things.{values_of, allocation_region, allocation_cost, put_in, drop_if_in, values_in};
 
 use crate::values::Values;
 use ti_base::Value;
@@ -35,7 +35,7 @@ impl Allocation {
 
     /// Its cost: 1, and 1 for each cell; what was dropped costs nothing.
     pub fn cost(&self) -> u64
-        ensures { result ≡ cost_of self.now }
+        ensures { result ≡ allocation_cost self.now }
     {
         match self {
             Allocation::Object { fields, .. } => 1 + fields.count(),
@@ -72,7 +72,7 @@ impl Allocation {
     /// Drops it if it is in the region. The result is what it cost, or 0 if it isn't in the region.
     pub fn drop_from(&mut self, region: u32) -> u64
         ensures thing { self.new ≡ drop_if_in region self.old }
-        ensures freed { result + cost_of self.new ≡ cost_of self.old }
+        ensures freed { result + allocation_cost self.new ≡ allocation_cost self.old }
     {
         if self.region() != region {
             return 0;

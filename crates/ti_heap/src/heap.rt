@@ -117,7 +117,7 @@ impl Heap {
         requires here { id.maker < length self.old }
         requires next { id.serial ≡ length (share_of self.old id.maker) }
         requires named { is_named id thing ≡ true }
-        requires room { cost_of id.maker (contents self.old) + things.cost_of thing ≤ 1048576 }
+        requires room { cost_of id.maker (contents self.old) + things.allocation_cost thing ≤ 1048576 }
         requires backed { HasBacking (thing_at self.old) id thing }
         ensures ok { OnOk result (contents self.new ≡ with_thing id (values_of thing) (option_map map_of (layout_of thing))
             (contents self.old)) }

@@ -1,7 +1,7 @@
 // What one process made, with its cost.
 
 ghost use Rattle.std.specs.Prelude.{◌≡◌, ◌+◌, ◌<◌, ◌≤◌, nat_lt, [], ◌∷◌, ◌++◌, map, length, slice_get, Some, OnOk, OnErr, IsSomeAnd};
-ghost use Rattle.ti_heap.specs.Things.{values_of, cost_of, total_cost, put_in, drop_if_in, changed_at};
+ghost use Rattle.ti_heap.specs.Things.{values_of, allocation_cost, total_cost, put_in, drop_if_in, changed_at};
 
 use crate::allocation::Allocation;
 use std::alloc::Global;
@@ -73,7 +73,7 @@ impl ProcHeap {
 
     /// Adds an object, grid or view. If memory runs out, nothing changes. Its cost must not exceed the limit.
     pub fn push(&mut self, thing: Allocation) -> Result<(), Memory>
-        requires { total_cost self.old + cost_of thing ≤ 1048576 }
+        requires { total_cost self.old + allocation_cost thing ≤ 1048576 }
         ensures ok { OnOk result (self.new ≡ self.old ++ thing ∷ []) }
         ensures err { OnErr result (self.new ≡ self.old) }
     {

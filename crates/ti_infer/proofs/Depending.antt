@@ -12,7 +12,7 @@ use Rattle.ti_lang.specs.Program.Statements as st
 use Rattle.ti_lang.specs.Program.Classes.{NumberedResult, NumberedMethod, ProgramView}
 use Rattle.ti_lang.specs.Program.Classes as c
 use Rattle.ti_lang.specs.Program.Scope.{ScopeVariable, ScopeContents, this_of}
-use Rattle.ti_lang.specs.Typing.Kinds.{is_local, is_point}
+use Rattle.ti_lang.specs.Typing.Kinds.{is_local, is_point_type}
 use Rattle.ti_lang.specs.Typing.TextTypes.{syntactic_type}
 use Rattle.ti_lang.specs.Typing.Called.{called_method, member_called}
 use Rattle.ti_lang.specs.Typing.Singleness.{tells_of_domain, is_single_sent, single_result, has_single_result}
@@ -75,8 +75,8 @@ module _ (counts : Place → Bool) (p : ProgramView) (m : NumberedMethod) (marks
     dependencies_open (e.Binary at op a b) = joined (dependencies p m inside a) (dependencies p m inside b) _ _ (dependencies_open a) (dependencies_open b)
     dependencies_open (e.Cast at to a) = joined (plain_if (is_local to.type)) (dependencies p m inside a) (not (is_local to.type)) _ (refused (is_local to.type)) (dependencies_open a)
     dependencies_open (e.Index at a xs) =
-        joined (plain_if (not (is_point (syntactic_type p (this_of m) a)))) (dependencies p m inside a ++ all_dependencies p m inside xs)
-        (is_point (syntactic_type p (this_of m) a)) _ (tested (is_point (syntactic_type p (this_of m) a)))
+        joined (plain_if (not (is_point_type (syntactic_type p (this_of m) a)))) (dependencies p m inside a ++ all_dependencies p m inside xs)
+        (is_point_type (syntactic_type p (this_of m) a)) _ (tested (is_point_type (syntactic_type p (this_of m) a)))
         (joined (dependencies p m inside a) (all_dependencies p m inside xs) _ _ (dependencies_open a) (all_open xs))
     dependencies_open (e.Member at a name args) =
         joined (plain_if (not (tells_of_domain (member_called p (this_of m) a name)))) (dependencies p m inside a ++ all_dependencies p m inside args)

@@ -11,19 +11,19 @@ use Rattle.ti_lang.specs.Program.Statements.{NumberedDims, NumberedInit, Numbere
 use Rattle.ti_lang.specs.Program.Statements as st
 use Rattle.ti_lang.specs.Program.Classes.{NumberedMethod, ProgramView}
 use Rattle.ti_lang.specs.Program.Scope.{ScopeVariable, ScopeContents}
-use Rattle.ti_lang.specs.Typing.Kinds.{is_void, is_point, is_local}
+use Rattle.ti_lang.specs.Typing.Kinds.{is_void, is_point_type, is_local}
 use Rattle.ti_lang.specs.Typing.Declared.{field_type, named_field_type, result_type}
 use Rattle.ti_lang.specs.Typing.Expressions.{and_then_both, range_count, bounds, expr_type, operand_type}
 use Rattle.ti_rules.specs.declared.refusal.Refusal.{Refusal}
 use Rattle.ti_rules.specs.declared.rule.Rule.TheVariants.{Y1, Y2, Y3, Y6, Y8, Q2}
 use Rattle.ti_rules.specs.Refusals.{refused_if}
-use Rattle.ti_rules.specs.InitialTypes.{right_side_type, broadcast_type, region_type, object_type, Over, Ranged, spread, new_grid_type, initial_type}
+use Rattle.ti_rules.specs.InitialTypes.{right_side_type, broadcast_type, region_type, object_type, Over, Ranged, dims_spread, new_grid_type, initial_type}
 use Rattle.ti_rules.specs.Broken.Refused.{refusal_at, misfit}
 use Rattle.ti_rules.specs.Broken.Misplaced.{gives_nothing, bounds_misplaced}
 use Rattle.ti_rules.specs.Broken.Expressions.{refusals_at}
 use Rattle.ti_rules.specs.Broken.Words.{type_word_refusals}
 use Rattle.ti_rules.specs.Broken.RightSides.{inner_refusals, value_refusals, region_refusals, dims_refusals, initial_refusals}
-use Rattle.ti_rules.specs.Broken.Targets.{is_foreach_use, is_foreach_variable, is_coordinate, maybe_local, hidden_field, hidden_element, is_hidden_local, write_refusals}
+use Rattle.ti_rules.specs.Broken.Targets.{is_foreach_use, is_foreach_variable, is_point_coordinate, maybe_local, hidden_field, hidden_element, is_hidden_local, write_refusals}
 use Rattle.ti_rules.specs.Broken.Statements.{update_refusals, operator_of, is_boolean, condition_refusals, maybe_condition_refusals, printed_refusals, print_refusals, return_refusals, statement_refusals}
 use Rattle.ti_rules.specs.Parts.{parts_of_ranges}
 use Rattle.ti_rules.specs.StmtInContext.{StmtContext, scope_of}
@@ -80,7 +80,7 @@ module _ (marks : Marks) (p : ProgramView) (singles : ℕ → Bool) (s r : Scope
   region_same None = refl
   region_same (Some x) = inner_same x
 
-  spread_type_same : (d : NumberedDims) → spread (marked marks p) s (marked_dims singles d) ≡ spread p r d
+  spread_type_same : (d : NumberedDims) → dims_spread (marked marks p) s (marked_dims singles d) ≡ dims_spread p r d
   spread_type_same (st.Domain x) = ap (option_map Over) (types x)
   spread_type_same (st.Ranges rs) =
       ap (λ q. option_map (Ranged (range_count q)) (bounds (marked marks p) s q)) (ranges_listed singles rs)
@@ -118,8 +118,8 @@ module _ (marks : Marks) (p : ProgramView) (singles : ℕ → Bool) (s r : Scope
       by Foreach = refl
   foreach_same _ = refl
 
-  coordinate_same : (x : NumberedExp) → is_coordinate (marked marks p) s (marked_exp singles x) ≡ is_coordinate p r x
-  coordinate_same (e.Index at a xs) = ap (λ o. option_map_or is_point o false) (types a)
+  coordinate_same : (x : NumberedExp) → is_point_coordinate (marked marks p) s (marked_exp singles x) ≡ is_point_coordinate p r x
+  coordinate_same (e.Index at a xs) = ap (λ o. option_map_or is_point_type o false) (types a)
   coordinate_same _ = refl
 
   hidden_same : (x : NumberedExp) → is_hidden_local (marked marks p) s (marked_exp singles x) ≡ is_hidden_local p r x
@@ -132,7 +132,7 @@ module _ (marks : Marks) (p : ProgramView) (singles : ℕ → Bool) (s r : Scope
   write_same at x value =
       ap (λ c. if c then refusal_at Y1 at else (refused_if (is_foreach_variable (marked_exp singles x)) Y2 at
       ++ refused_if (is_hidden_local (marked marks p) s (marked_exp singles x)) Q2 at) ++ value) (coordinate_same x)
-      ∙ ap₂ (λ f h. if is_coordinate p r x then refusal_at Y1 at else (refused_if f Y2 at ++ refused_if h Q2 at) ++ value) (foreach_same x) (hidden_same x)
+      ∙ ap₂ (λ f h. if is_point_coordinate p r x then refusal_at Y1 at else (refused_if f Y2 at ++ refused_if h Q2 at) ++ value) (foreach_same x) (hidden_same x)
 
   -- ---- parts of statements
 

@@ -8,7 +8,7 @@ use Rattle.ti_lang.specs.Program.Statements.{NumberedInit}
 use Rattle.ti_lang.specs.Program.Statements as st
 use Rattle.ti_lang.specs.Program.Classes.{NumberedResult, NumberedMethod, ProgramView}
 use Rattle.ti_lang.specs.Program.Classes as c
-use Rattle.ti_lang.specs.Typing.Kinds.{is_point}
+use Rattle.ti_lang.specs.Typing.Kinds.{is_point_type}
 use Rattle.ti_lang.specs.Typing.Called.{called_method}
 use Rattle.ti_lang.specs.Typing.Singleness.{declared_single, tells_of_domain, is_single_part, are_single, is_single_range, are_single_ranges, single_result, has_single_result, is_single, is_single_sent, is_single_initial}
 use Rattle.ti_blame.specs.Marks.{Marks, IsSubset}
@@ -40,7 +40,7 @@ module _ (p : ProgramView) (this : Option ℕ) (m n : Marks) (i j s t : ℕ → 
     part_grows (e.Binary at op a b) = grows_and _ _ _ _ (part_grows a) (part_grows b)
     part_grows (e.Cast at to a) = grows_behind _ _ _ _ refl (part_grows a)
     part_grows (e.Index at a xs) =
-        grows_behind _ _ _ _ (ap is_point (text_same m p this i a ∙ sym (text_same n p this j a))) (grows_and _ _ _ _ (part_grows a) (parts_grow xs))
+        grows_behind _ _ _ _ (ap is_point_type (text_same m p this i a ∙ sym (text_same n p this j a))) (grows_and _ _ _ _ (part_grows a) (parts_grow xs))
     part_grows (e.Member at a name args) =
         grows_behind _ _ _ _ (ap tells_of_domain (language_same m p this i a name ∙ sym (language_same n p this j a name))) (grows_and _ _ _ _ (part_grows a) (parts_grow args))
     part_grows _ = λ h. h

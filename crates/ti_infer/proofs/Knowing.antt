@@ -12,7 +12,7 @@ use Rattle.ti_lang.specs.Typing.BuiltIn.{BuiltIn, member_type}
 use Rattle.ti_lang.specs.Typing.Declared.{in_scope, declared_type, field_type, named_field_type, types_of}
 use Rattle.ti_lang.specs.Typing.Fits.{casts}
 use Rattle.ti_lang.specs.Typing.Expressions as typing
-use Rattle.ti_lang.specs.Typing.Expressions.{plain, operand, and_then_both, append_both, one, point_literal, rect_literal, index_type, select_type, takes, call_type, called, member_given, member, type_result, operands, bound_types, bounds, operand_type}
+use Rattle.ti_lang.specs.Typing.Expressions.{plain, operand, and_then_both, append_both, one, point_literal, rect_literal, index_type, select_type, takes, call_type, called, member_given, member_typing, type_result, operands, bound_types, bounds, operand_type}
 use Rattle.ti_blame.specs.Marks.{Marks}
 use Rattle.ti_infer.specs.Marked.{marked_declaration, marked_exp, marked_exps, marked_range, marked_ranges, marked_param, marked_params, marked_method, marked}
 use Rattle.ti_infer.proofs.Same.{result_same, method_same, instance_same, built_in_same, count_same}
@@ -61,7 +61,7 @@ given_known marks p (t.Grid u n l) name ts = ap (λ o. plain (option_and_then (�
 given_known marks p t.Null name ts = ap (λ o. plain (option_and_then (λ (b : BuiltIn). member_type b t.Null ts) o)) (built_in_same marks p name)
 given_known marks p t.Void name ts = ap (λ o. plain (option_and_then (λ (b : BuiltIn). member_type b t.Void ts) o)) (built_in_same marks p name)
 
-member_known : (marks : Marks) (p : ProgramView) (x : Option ValueType) (name : ℕ) (ts : Option (List ValueType)) → member (marked marks p) x name ts ≡ member p x name ts
+member_known : (marks : Marks) (p : ProgramView) (x : Option ValueType) (name : ℕ) (ts : Option (List ValueType)) → member_typing (marked marks p) x name ts ≡ member_typing p x name ts
 member_known marks p (Some x) name (Some ts) = given_known marks p x name ts
 member_known marks p (Some x) name None = refl
 member_known marks p None name ts = refl
@@ -103,7 +103,7 @@ module _ (marks : Marks) (p : ProgramView) (singles : ℕ → Bool) (s r : Scope
     known_same (e.Binary at op a b) = ap₂ (λ k l. plain (and_then_both (operand k) (operand l) (binary_type op))) (known_same a) (known_same b)
     known_same (e.Cast at to a) = ap (λ k. plain (option_and_then (λ y. where_true (casts to.type y) to.type) (operand k))) (known_same a)
     known_same (e.Select at a name) = ap plain (selected marks p _ name ∙ ap (λ k. option_and_then (λ y. select_type p y name) (operand k)) (known_same a))
-    known_same (e.Member at a name args) = member_known marks p _ name _ ∙ ap₂ (λ k o. member p (operand k) name o) (known_same a) (operands_same args)
+    known_same (e.Member at a name args) = member_known marks p _ name _ ∙ ap₂ (λ k o. member_typing p (operand k) name o) (known_same a) (operands_same args)
     known_same (e.Index at a parts) = ap₂ (λ k o. plain (and_then_both (operand k) o index_type)) (known_same a) (operands_same parts)
     known_same _ = refl
 

@@ -4,7 +4,7 @@ use Rattle.ti_lang.specs.Program.Types.{Declaration, Typed, Foreach}
 use Rattle.ti_lang.specs.Program.Expressions.{NumberedExp, NumberedExps, NumberedRange, NumberedRanges}
 use Rattle.ti_lang.specs.Program.Expressions as e
 use Rattle.ti_lang.specs.Program.Classes.{NumberedMethod, ProgramView}
-use Rattle.ti_lang.specs.Typing.Kinds.{is_local, is_point}
+use Rattle.ti_lang.specs.Typing.Kinds.{is_local, is_point_type}
 use Rattle.ti_lang.specs.Typing.Singleness.{declared_single, tells_of_domain, is_single_part, are_single, is_single_range, are_single_ranges}
 use Rattle.ti_blame.specs.Marks.{Marks}
 use Rattle.ti_infer.specs.Marks.{marks_variable}
@@ -25,7 +25,7 @@ module _ (p : ProgramView) (this : Option ℕ) (marks : Marks) (m : NumberedMeth
     under (e.Unary at op a) = under a
     under (e.Binary at op a b) = ap₂ (λ x y. x && y) (under a) (under b)
     under (e.Cast at to a) = ap (λ x. not (is_local to.type) && x) (under a)
-    under (e.Index at a xs) = ap₂ (λ x y. x && y) (ap is_point (text_same marks p this (marks_variable marks m) a)) (ap₂ (λ x y. x && y) (under a) (under_all xs))
+    under (e.Index at a xs) = ap₂ (λ x y. x && y) (ap is_point_type (text_same marks p this (marks_variable marks m) a)) (ap₂ (λ x y. x && y) (under a) (under_all xs))
     under (e.Member at a name args) = ap₂ (λ x y. x && y) (ap tells_of_domain (language_same marks p this (marks_variable marks m) a name)) (ap₂ (λ x y. x && y) (under a) (under_all args))
     under _ = refl
 

@@ -24,7 +24,7 @@ use Rattle.ti_blame.specs.declared.implication.Implication.{Implication}
 use Rattle.ti_infer.specs.declared.site.StmtSite.{StmtSite}
 use Rattle.ti_infer.specs.Reason.{reasons_of_maybe, return_reasons}
 use Rattle.ti_infer.specs.Mirrors.Implications.{each, condition_edges, loop_targets, inside_foreach, variables_foreach, method_edges, methods_edges}
-use Rattle.ti_infer.specs.Mirrors.Sites.{program_at, method_at, inside_of, dependencies_at}
+use Rattle.ti_infer.specs.Mirrors.Sites.{program_at, method_of_site, inside_of, dependencies_at}
 use Rattle.ti_infer.specs.Mirrors.StmtSites.{variables_at, edges_with, edges_around, maybe_around, always_if}
 use Rattle.ti_infer.proofs.Pushing.{drop_next}
 
@@ -63,15 +63,15 @@ method_walked r own_edges inside w w' n n' out own new is_w is_n f k =
 module _ (a : StmtSite) (i : ℕ) (jump : List Conclusion) (at : Place) where
   -- a `for`
   pub for_walked : {R E : Type 0} (r : Result R E) (second third : ℕ) (w v : List Conclusion) (first update : MaybeNumbered) (c : Option NumberedExp) (b body : NumberedStm) (out own one two new : List Implication)
-      → second ≡ i + length (reasons_of_maybe (program_at a.site) (method_at a.site) first) → third ≡ second + length (reasons_of_maybe (program_at a.site) (method_at a.site) update) → b ≡ body
-      → w ≡ loop_targets (program_at a.site) (method_at a.site) a.whole second update b → v ≡ loop_targets (program_at a.site) (method_at a.site) a.whole second update b
-      → own ≡ out ++ (condition_edges (program_at a.site) (method_at a.site) a.whole (inside_of a.inside.now) c w
-      ++ always_if (doings_of_maybe (program_at a.site) (this_of (method_at a.site)) update).jumps)
+      → second ≡ i + length (reasons_of_maybe (program_at a.site) (method_of_site a.site) first) → third ≡ second + length (reasons_of_maybe (program_at a.site) (method_of_site a.site) update) → b ≡ body
+      → w ≡ loop_targets (program_at a.site) (method_of_site a.site) a.whole second update b → v ≡ loop_targets (program_at a.site) (method_of_site a.site) a.whole second update b
+      → own ≡ out ++ (condition_edges (program_at a.site) (method_of_site a.site) a.whole (inside_of a.inside.now) c w
+      ++ always_if (doings_of_maybe (program_at a.site) (this_of (method_of_site a.site)) update).jumps)
       → one ≡ own ++ maybe_around a i jump first → two ≡ one ++ maybe_around a second jump update → OnOk r (new ≡ two ++ edges_around a third v b)
       → OnOk r (new ≡ out ++ edges_around a i jump (st.For at first c update body))
   for_walked r second third w v first update c b body out own one two new is_second is_third is_body is_w is_v f g h k =
       let p = program_at a.site in
-      let m = method_at a.site in
+      let m = method_of_site a.site in
       let start = i + length (reasons_of_maybe p m first) in
       let behind = start + length (reasons_of_maybe p m update) in
       let targets : ℕ → NumberedStm → List Conclusion = λ n x. loop_targets p m a.whole n update x in
@@ -86,17 +86,17 @@ module _ (a : StmtSite) (i : ℕ) (jump : List Conclusion) (at : Place) where
   -- a foreach
   pub foreach_walked : {R E : Type 0} (r : Result R E) (variable : ℕ) (w v : List Conclusion) (domain : NumberedExp) (b body : NumberedStm) (vs : List ScopeVariable) (ins : List (ℕ × List (Option Mark)))
       (around : ℕ → List Conclusion → NumberedStm → List Implication) (out own new : List Implication)
-      → b ≡ body → w ≡ loop_targets (program_at a.site) (method_at a.site) a.whole i st.NoStm b → v ≡ loop_targets (program_at a.site) (method_at a.site) a.whole i st.NoStm b
-      → vs ≡ variables_foreach (program_at a.site) (method_at a.site) a.whole (variables_at a) variable domain
-      → ins ≡ inside_foreach (program_at a.site) (method_at a.site) a.whole (variables_at a) (inside_of a.inside.now) variable domain
+      → b ≡ body → w ≡ loop_targets (program_at a.site) (method_of_site a.site) a.whole i st.NoStm b → v ≡ loop_targets (program_at a.site) (method_of_site a.site) a.whole i st.NoStm b
+      → vs ≡ variables_foreach (program_at a.site) (method_of_site a.site) a.whole (variables_at a) variable domain
+      → ins ≡ inside_foreach (program_at a.site) (method_of_site a.site) a.whole (variables_at a) (inside_of a.inside.now) variable domain
       → around ≡ edges_with a.site a.whole vs ins
       → own ≡ out ++ each (dependencies_at a.site a.inside.now domain) w → OnOk r (new ≡ own ++ around i v b)
       → OnOk r (new ≡ out ++ edges_around a i jump (st.Foreach at variable domain body))
   foreach_walked r variable w v domain b body vs ins around out own new is_body is_w is_v is_vs is_ins is_around f k =
-      let targets : NumberedStm → List Conclusion = λ x. loop_targets (program_at a.site) (method_at a.site) a.whole i st.NoStm x in
+      let targets : NumberedStm → List Conclusion = λ x. loop_targets (program_at a.site) (method_of_site a.site) a.whole i st.NoStm x in
       inner_walked r (each (dependencies_at a.site a.inside.now domain)) (edges_with a.site a.whole) i w v (targets body) b body vs
-      (variables_foreach (program_at a.site) (method_at a.site) a.whole (variables_at a) variable domain) ins
-      (inside_foreach (program_at a.site) (method_at a.site) a.whole (variables_at a) (inside_of a.inside.now) variable domain) around out
+      (variables_foreach (program_at a.site) (method_of_site a.site) a.whole (variables_at a) variable domain) ins
+      (inside_foreach (program_at a.site) (method_of_site a.site) a.whole (variables_at a) (inside_of a.inside.now) variable domain) around out
       own new is_body (is_w ∙ ap targets is_body) (is_v ∙ ap targets is_body) is_vs is_ins is_around f k
 
 -- ---- methods

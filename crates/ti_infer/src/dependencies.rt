@@ -4,7 +4,7 @@ ghost use Rattle.std.specs.Option.{option_map};
 ghost use Rattle.ti_lang.specs.Program.Expressions.{numbered_exps, numbered_ranges};
 ghost use Rattle.ti_lang.specs.Program.Scope.{this_of};
 ghost use Rattle.ti_lang.specs.Program.Views.{expression_of, bound_of, variable_of};
-ghost use Rattle.ti_lang.specs.Typing.Kinds.{is_point};
+ghost use Rattle.ti_lang.specs.Typing.Kinds.{is_point_type};
 ghost use Rattle.ti_lang.specs.Typing.TyRef.{ty_view, built_in_of};
 ghost use Rattle.ti_lang.specs.Typing.TextTypes.{syntactic_type};
 ghost use Rattle.ti_lang.specs.Typing.Called.{member_called};
@@ -12,7 +12,7 @@ ghost use Rattle.ti_lang.specs.Typing.Singleness.{tells_of_domain};
 ghost use Rattle.ti_infer.specs.Marks.{variable_place};
 ghost use Rattle.ti_infer.specs.Mirrors.Dependencies.{variable_mark, plain_if, variable_dependencies};
 ghost use Rattle.ti_infer.specs.Mirrors.Implications.{inside_at};
-ghost use Rattle.ti_infer.specs.Mirrors.Sites.{program_at, method_at, inside_of, dependencies_at, all_dependencies_at, range_dependencies_at, ranges_dependencies_at};
+ghost use Rattle.ti_infer.specs.Mirrors.Sites.{program_at, method_of_site, inside_of, dependencies_at, all_dependencies_at, range_dependencies_at, ranges_dependencies_at};
 
 use crate::reads::{built_in, static_type};
 use crate::reasons::place_at;
@@ -27,7 +27,7 @@ use ti_single::{deref_expr, deref_exprs, deref_ranges, deref_type};
 
 // The annotation of a declared variable.
 fn declared_dependency(site: MethodSite, number: u32) -> Option<Mark>
-    ensures { result ≡ option_map variable_mark (variable_place (method_at site.entry) number) }
+    ensures { result ≡ option_map variable_mark (variable_place (method_of_site site.entry) number) }
 {
     match place_at(site, number) {
         Some(place) => Some(Mark {
@@ -63,7 +63,7 @@ fn variable(
     variable: &Variable,
     out: &mut Vec<Option<Mark>>,
 ) -> Result<(), Memory>
-    ensures { OnOk result (out.new.items ≡ out.old.items ++ variable_dependencies (program_at site.entry) (method_at site.entry)
+    ensures { OnOk result (out.new.items ≡ out.old.items ++ variable_dependencies (program_at site.entry) (method_of_site site.entry)
         (inside_at (inside_of inside.now)) (variable_of variable.now).number (variable_of variable.now).declared) }
 {
     match &variable.declared {
@@ -75,7 +75,7 @@ fn variable(
 // ---- members
 
 fn is_point(ty: TyRef) -> bool
-    ensures { result ≡ is_point (ty_view ty.entry) }
+    ensures { result ≡ is_point_type (ty_view ty.entry) }
 {
     matches!(ty, TyRef::Pt(_))
 }
@@ -91,14 +91,14 @@ fn tells_of_domain(member: Option<BuiltIn>) -> bool
 
 // Whether the receiver of an index is a point: its coordinates are single if it is, whereas elements of grids never are.
 fn indexes_point(site: MethodSite, receiver: &Expr) -> bool
-    ensures { result ≡ is_point (syntactic_type (program_at site.entry) (this_of (method_at site.entry)) (expression_of receiver.now)) }
+    ensures { result ≡ is_point_type (syntactic_type (program_at site.entry) (this_of (method_of_site site.entry)) (expression_of receiver.now)) }
 {
     is_point(static_type(site, receiver))
 }
 
 // Whether the member is a query of a domain (`size`, `min`, `max` or `contains`), which can be single.
 fn tells(site: MethodSite, receiver: &Expr, name: u32) -> bool
-    ensures { result ≡ tells_of_domain (member_called (program_at site.entry) (this_of (method_at site.entry))
+    ensures { result ≡ tells_of_domain (member_called (program_at site.entry) (this_of (method_of_site site.entry))
         (expression_of receiver.now) name) }
 {
     tells_of_domain(built_in(site, receiver, name))

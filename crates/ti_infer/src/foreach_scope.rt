@@ -4,7 +4,7 @@ ghost use Rattle.ti_lang.specs.Program.Scope.{in_scope_of, contents_of};
 ghost use Rattle.ti_lang.specs.Program.Views.{expression_of};
 ghost use Rattle.ti_rules.specs.StmtInContext.{with_foreach_variable};
 ghost use Rattle.ti_infer.specs.Mirrors.Implications.{extend_distinct, inside_foreach, variables_foreach};
-ghost use Rattle.ti_infer.specs.Mirrors.Sites.{program_at, method_at, inside_of, dependencies_at};
+ghost use Rattle.ti_infer.specs.Mirrors.Sites.{program_at, method_of_site, inside_of, dependencies_at};
 ghost use Rattle.ti_infer.specs.Mirrors.StmtSites.{variables_at};
 
 use crate::copies::{extend_distinct, insides, variables};
@@ -49,7 +49,7 @@ pub fn scope_inside(
 ) -> Result<Scope, Memory>
     ensures this { IfOk result (λ s. s.this ≡ context.entry.scope.now.this) }
     ensures variables { IfOk result (λ s. (contents_of s).variables
-        ≡ variables_foreach (program_at context.entry.site) (method_at context.entry.site) context.entry.whole (variables_at context.entry) number
+        ≡ variables_foreach (program_at context.entry.site) (method_of_site context.entry.site) context.entry.whole (variables_at context.entry) number
         (expression_of domain.now)) }
 {
     let variables = with_variable(
@@ -87,7 +87,7 @@ pub fn with_own(
     number: u32,
     domain: &Expr,
 ) -> Result<Vec<VariableDeps>, Memory>
-    ensures { IfOk result (λ v. inside_of v.items ≡ inside_foreach (program_at context.entry.site) (method_at context.entry.site) context.entry.whole
+    ensures { IfOk result (λ v. inside_of v.items ≡ inside_foreach (program_at context.entry.site) (method_of_site context.entry.site) context.entry.whole
         (variables_at context.entry) (inside_of context.entry.inside.now) number (expression_of domain.now)) }
 {
     let mut found = insides(alloc, context.inside)?;

@@ -19,7 +19,7 @@ ghost use Rattle.ti_infer.specs.Reason.{reasons, reasons_of_maybe, target_reason
 ghost use Rattle.ti_infer.specs.Mirrors.Dependencies.{result_dependencies, callee_dependencies, whole_dependencies, initial_dependencies, plain_if};
 ghost use Rattle.ti_infer.specs.Mirrors.Implications.{inside_at, one_each, each, ones, then_if, loop_targets, effect_targets, arguments_edges, params_edges, call_edges, whole_edges, initial_edges, condition_edges};
 ghost use Rattle.ti_infer.specs.Mirrors.Listed.{option_list};
-ghost use Rattle.ti_infer.specs.Mirrors.Sites.{program_at, method_at, inside_of, dependencies_at};
+ghost use Rattle.ti_infer.specs.Mirrors.Sites.{program_at, method_of_site, inside_of, dependencies_at};
 
 use crate::dependencies::{dependencies, plain_if};
 use crate::reads::{callee, static_type};
@@ -104,7 +104,7 @@ fn result_dependency(
     place: Place,
     ty: &ResultType,
 ) -> Option<Mark>
-    ensures { result ∷ [] ≡ result_dependencies (program_at site.entry) (method_at site.entry) (inside_at (inside_of inside.now)) place
+    ensures { result ∷ [] ≡ result_dependencies (program_at site.entry) (method_of_site site.entry) (inside_at (inside_of inside.now)) place
         (numbered_result_of ty.now) }
 {
     match ty {
@@ -133,7 +133,7 @@ fn callee_dependencies(
     method: Option<&Method>,
     expr: &Expr,
 ) -> Result<Vec<Option<Mark>>, Memory>
-    ensures { IfOk result (λ v. v.items ≡ callee_dependencies (program_at site.entry) (method_at site.entry) (inside_at (inside_of inside.now))
+    ensures { IfOk result (λ v. v.items ≡ callee_dependencies (program_at site.entry) (method_of_site site.entry) (inside_at (inside_of inside.now))
         (option_map (λ method. numbered_method_of method.now) method.entry) (expression_of expr.now)) }
 {
     match method {
@@ -152,7 +152,7 @@ pub fn whole_dependencies(
     inside: &[VariableDeps],
     expr: &Expr,
 ) -> Result<Vec<Option<Mark>>, Memory>
-    ensures { IfOk result (λ v. v.items ≡ whole_dependencies (program_at site.entry) (method_at site.entry) (inside_at (inside_of inside.now))
+    ensures { IfOk result (λ v. v.items ≡ whole_dependencies (program_at site.entry) (method_of_site site.entry) (inside_at (inside_of inside.now))
         (expression_of expr.now)) }
 {
     let m = callee(site, expr);
@@ -186,7 +186,7 @@ pub fn initial_dependencies(
     inside: &[VariableDeps],
     value: &Init,
 ) -> Result<Vec<Option<Mark>>, Memory>
-    ensures { IfOk result (λ v. v.items ≡ initial_dependencies (program_at site.entry) (method_at site.entry) (inside_at (inside_of inside.now))
+    ensures { IfOk result (λ v. v.items ≡ initial_dependencies (program_at site.entry) (method_of_site site.entry) (inside_at (inside_of inside.now))
         (initial_of value.now)) }
 {
     match value {
@@ -229,7 +229,7 @@ fn arguments(
     args: &[Expr],
     out: &mut Vec<Implication>,
 ) -> Result<(), Memory>
-    ensures { OnOk result (out.new.items ≡ out.old.items ++ arguments_edges (program_at site.entry) (method_at site.entry) whole
+    ensures { OnOk result (out.new.items ≡ out.old.items ++ arguments_edges (program_at site.entry) (method_of_site site.entry) whole
         (inside_of inside.now) (map numbered_param_of params.now) (numbered_exps (map expression_of args.now))) }
 {
     for i in 0..args.len() {
@@ -250,7 +250,7 @@ fn params(
     args: &[Expr],
     out: &mut Vec<Implication>,
 ) -> Result<(), Memory>
-    ensures { OnOk result (out.new.items ≡ out.old.items ++ params_edges (program_at site.entry) (method_at site.entry) whole
+    ensures { OnOk result (out.new.items ≡ out.old.items ++ params_edges (program_at site.entry) (method_of_site site.entry) whole
         (inside_of inside.now) (numbered_params_of params.now) (numbered_exps (map expression_of args.now))) }
 {
     match params {
@@ -269,7 +269,7 @@ pub fn call(
     args: &[Expr],
     out: &mut Vec<Implication>,
 ) -> Result<(), Memory>
-    ensures { OnOk result (out.new.items ≡ out.old.items ++ call_edges (program_at site.entry) (method_at site.entry) whole
+    ensures { OnOk result (out.new.items ≡ out.old.items ++ call_edges (program_at site.entry) (method_of_site site.entry) whole
         (inside_of inside.now) (option_map (λ method. numbered_method_of method.now) method.entry) (numbered_exps (map expression_of args.now))) }
 {
     match method {
@@ -281,19 +281,19 @@ pub fn call(
 // ---- conclusions
 
 fn returns(site: MethodSite, stmt: &Stmt) -> bool
-    ensures { result ≡ (doings (program_at site.entry) (this_of (method_at site.entry)) (statement_of stmt.now)).returns }
+    ensures { result ≡ (doings (program_at site.entry) (this_of (method_of_site site.entry)) (statement_of stmt.now)).returns }
 {
     stmt_effects(site.program, this_of(site.method), stmt).returns
 }
 
 fn jumps(site: MethodSite, stmt: &Stmt) -> bool
-    ensures { result ≡ (doings (program_at site.entry) (this_of (method_at site.entry)) (statement_of stmt.now)).jumps }
+    ensures { result ≡ (doings (program_at site.entry) (this_of (method_of_site site.entry)) (statement_of stmt.now)).jumps }
 {
     stmt_effects(site.program, this_of(site.method), stmt).jumps
 }
 
 fn returns_in(site: MethodSite, stmt: &Option<Box<Stmt>>) -> bool
-    ensures { result ≡ (doings_of_maybe (program_at site.entry) (this_of (method_at site.entry)) (maybe_in stmt.now)).returns }
+    ensures { result ≡ (doings_of_maybe (program_at site.entry) (this_of (method_of_site site.entry)) (maybe_in stmt.now)).returns }
 {
     match stmt {
         Some(stmt) => returns(site, deref_stmt(stmt)),
@@ -303,7 +303,7 @@ fn returns_in(site: MethodSite, stmt: &Option<Box<Stmt>>) -> bool
 
 /// Whether an update has a jump in it. No program that was parsed has one.
 pub fn jumps_in(site: MethodSite, stmt: &Option<Box<Stmt>>) -> bool
-    ensures { result ≡ (doings_of_maybe (program_at site.entry) (this_of (method_at site.entry)) (maybe_in stmt.now)).jumps }
+    ensures { result ≡ (doings_of_maybe (program_at site.entry) (this_of (method_of_site site.entry)) (maybe_in stmt.now)).jumps }
 {
     match stmt {
         Some(stmt) => jumps(site, deref_stmt(stmt)),
@@ -350,7 +350,7 @@ pub fn loop_targets(
     update: &Option<Box<Stmt>>,
     body: &Stmt,
 ) -> Result<Vec<Conclusion>, Memory>
-    ensures { IfOk result (λ v. v.items ≡ loop_targets (program_at site.entry) (method_at site.entry) whole index (maybe_in update.now)
+    ensures { IfOk result (λ v. v.items ≡ loop_targets (program_at site.entry) (method_of_site site.entry) whole index (maybe_in update.now)
         (statement_of body.now)) }
 {
     let mut found = Vec::new(alloc);
@@ -370,7 +370,7 @@ pub fn effect_targets(
     jump: &[Conclusion],
     stmt: &Stmt,
 ) -> Result<Vec<Conclusion>, Memory>
-    ensures { IfOk result (λ v. v.items ≡ effect_targets (program_at site.entry) (method_at site.entry) whole index jump.now
+    ensures { IfOk result (λ v. v.items ≡ effect_targets (program_at site.entry) (method_of_site site.entry) whole index jump.now
         (statement_of stmt.now)) }
 {
     let mut found = Vec::new(alloc);

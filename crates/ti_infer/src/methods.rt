@@ -6,7 +6,7 @@ ghost use Rattle.ti_lang.specs.Program.Statements.{numbered_stms};
 ghost use Rattle.ti_lang.specs.Program.Views.{program_of, numbered_param_of, numbered_method_of};
 ghost use Rattle.ti_infer.specs.Reason.{result_reasons, return_reasons};
 ghost use Rattle.ti_infer.specs.Mirrors.Implications.{params_inside, first_inside, method_conclusion, edges_all, method_edges, all_reasons, program_edges};
-ghost use Rattle.ti_infer.specs.Mirrors.Sites.{program_at, method_at, inside_of};
+ghost use Rattle.ti_infer.specs.Mirrors.Sites.{program_at, method_of_site, inside_of};
 
 use crate::fits::own_edge;
 use crate::implications::{index_after, one_dependency};
@@ -56,7 +56,7 @@ fn inside_params(alloc: Global, params: &[Param]) -> Result<Vec<VariableDeps>, M
 
 // The number of reasons that the result of a method is: 1, or 0 for `void`.
 fn result_size(site: MethodSite) -> usize
-    ensures { result ≡ length (result_reasons (program_at site.entry) (method_at site.entry) (method_at site.entry).result) }
+    ensures { result ≡ length (result_reasons (program_at site.entry) (method_of_site site.entry) (method_of_site site.entry).result) }
 {
     match result(site, &site.method.result) {
         Some(_) => 1,
@@ -76,10 +76,10 @@ fn body_edges(
 ) -> Result<(), Memory>
     requires within { number < length (program_of site.program.now.parts).methods }
     requires is_method { slice_get (program_of site.program.now.parts).methods number ≡ Some (numbered_method_of site.method.now) }
-    ensures { OnOk result (out.new.items ≡ out.old.items ++ edges_all (program_at site.entry) (method_at site.entry) whole
-        (parameters (method_at site.entry).params) (first_inside (method_at site.entry).params)
-        (index + length (result_reasons (program_at site.entry) (method_at site.entry) (method_at site.entry).result)) []
-        (numbered_stms (method_at site.entry).body)) }
+    ensures { OnOk result (out.new.items ≡ out.old.items ++ edges_all (program_at site.entry) (method_of_site site.entry) whole
+        (parameters (method_of_site site.entry).params) (first_inside (method_of_site site.entry).params)
+        (index + length (result_reasons (program_at site.entry) (method_of_site site.entry) (method_of_site site.entry).result)) []
+        (numbered_stms (method_of_site site.entry).body)) }
 {
     let scope = Scope::begin(alloc, site.program, number)?;
     let inside = inside_params(alloc, listed_params(&site.method.params))?;
@@ -104,8 +104,8 @@ fn count(items: &Vec<Reason>) -> usize
 
 // Appends the reasons of a method, and returns the range of their indices.
 fn whole_reasons(site: MethodSite, items: &mut Vec<Reason>) -> Result<Conclusion, Memory>
-    ensures items { OnOk result (items.new.items ≡ items.old.items ++ return_reasons (program_at site.entry) (method_at site.entry)) }
-    ensures whole { IfOk result (λ w. w ≡ method_conclusion (program_at site.entry) (method_at site.entry) (length items.old.items)) }
+    ensures items { OnOk result (items.new.items ≡ items.old.items ++ return_reasons (program_at site.entry) (method_of_site site.entry)) }
+    ensures whole { IfOk result (λ w. w ≡ method_conclusion (program_at site.entry) (method_of_site site.entry) (length items.old.items)) }
 {
     let i = count(items);
     return_reasons(site, items)?;

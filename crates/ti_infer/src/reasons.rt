@@ -13,7 +13,7 @@ ghost use Rattle.ti_blame.specs.declared.reason.Reason.TheVariants.{OfCollective
 ghost use Rattle.ti_infer.specs.Marks.{variable_place};
 ghost use Rattle.ti_infer.specs.Reason.{reasons_if, method_reasons, acts_reasons, initial_reasons, place_reasons, declared_reasons, target_reasons, reasons, reasons_of_maybe, reasons_of_all, result_reasons, return_reasons};
 ghost use Rattle.ti_infer.specs.Mirrors.Listed.{option_list};
-ghost use Rattle.ti_infer.specs.Mirrors.Sites.{program_at, method_at};
+ghost use Rattle.ti_infer.specs.Mirrors.Sites.{program_at, method_of_site};
 
 use crate::reads::{built_in, callee};
 use crate::site::MethodSite;
@@ -59,7 +59,7 @@ fn is_collective(member: Option<BuiltIn>) -> bool
 
 #[tactic(auto, using(ti_lang::proofs::Lemmas::program_bridges))]
 fn is_collective_call(site: MethodSite, expr: &Expr) -> bool
-    ensures { result ≡ is_collective_call (program_at site.entry) (this_of (method_at site.entry)) (expression_of expr.now) }
+    ensures { result ≡ is_collective_call (program_at site.entry) (this_of (method_of_site site.entry)) (expression_of expr.now) }
 {
     match expr {
         Expr::Member { receiver, name, .. } => is_collective(built_in(site, receiver, *name)),
@@ -69,7 +69,7 @@ fn is_collective_call(site: MethodSite, expr: &Expr) -> bool
 
 // The collective that an expression is, as a reason.
 fn collective(site: MethodSite, expr: &Expr) -> Option<Reason>
-    ensures { option_list result ≡ reasons_if (is_collective_call (program_at site.entry) (this_of (method_at site.entry)) (expression_of expr.now))
+    ensures { option_list result ≡ reasons_if (is_collective_call (program_at site.entry) (this_of (method_of_site site.entry)) (expression_of expr.now))
         (OfCollective (place_of_numbered (expression_of expr.now)) ∷ []) }
 {
     if is_collective_call(site, expr) {
@@ -82,7 +82,7 @@ fn collective(site: MethodSite, expr: &Expr) -> Option<Reason>
 // Appends the reasons of an expression that is a whole statement or right side: what it calls.
 #[tactic(auto, using(crate::proofs::Pushing::pushing))]
 fn acts(site: MethodSite, expr: &Expr, out: &mut Vec<Reason>) -> Result<(), Memory>
-    ensures { OnOk result (out.new.items ≡ out.old.items ++ acts_reasons (program_at site.entry) (method_at site.entry)
+    ensures { OnOk result (out.new.items ≡ out.old.items ++ acts_reasons (program_at site.entry) (method_of_site site.entry)
         (expression_of expr.now)) }
 {
     let m = callee(site, expr);
@@ -92,7 +92,7 @@ fn acts(site: MethodSite, expr: &Expr, out: &mut Vec<Reason>) -> Result<(), Memo
 
 // Appends the reasons of a right side.
 fn initial(site: MethodSite, value: &Init, out: &mut Vec<Reason>) -> Result<(), Memory>
-    ensures { OnOk result (out.new.items ≡ out.old.items ++ initial_reasons (program_at site.entry) (method_at site.entry)
+    ensures { OnOk result (out.new.items ≡ out.old.items ++ initial_reasons (program_at site.entry) (method_of_site site.entry)
         (initial_of value.now)) }
 {
     match value {
@@ -108,7 +108,7 @@ fn initial(site: MethodSite, value: &Init, out: &mut Vec<Reason>) -> Result<(), 
 
 /// The place of the declaration of the variable with this number; `None` if there is none.
 pub fn place_at(site: MethodSite, number: u32) -> Option<Place>
-    ensures { result ≡ variable_place (method_at site.entry) number }
+    ensures { result ≡ variable_place (method_of_site site.entry) number }
 {
     let number = number as usize;
     if number < site.places.len() {
@@ -119,7 +119,7 @@ pub fn place_at(site: MethodSite, number: u32) -> Option<Place>
 }
 
 fn declared_reason(site: MethodSite, variable: &Variable) -> Option<Reason>
-    ensures { option_list result ≡ declared_reasons (program_at site.entry) (method_at site.entry) (variable_of variable.now).number
+    ensures { option_list result ≡ declared_reasons (program_at site.entry) (method_of_site site.entry) (variable_of variable.now).number
         (variable_of variable.now).declared }
 {
     match &variable.declared {
@@ -134,7 +134,7 @@ fn declared_reason(site: MethodSite, variable: &Variable) -> Option<Reason>
 /// The assigned variable, as a reason; `None` if the target is a foreach variable or no variable.
 #[tactic(auto, using(ti_lang::proofs::Lemmas::program_bridges))]
 pub fn target(site: MethodSite, expr: &Expr) -> Option<Reason>
-    ensures { option_list result ≡ target_reasons (program_at site.entry) (method_at site.entry) (expression_of expr.now) }
+    ensures { option_list result ≡ target_reasons (program_at site.entry) (method_of_site site.entry) (expression_of expr.now) }
 {
     match expr {
         Expr::Variable(_, v) => declared_reason(site, v),
@@ -147,7 +147,7 @@ pub fn target(site: MethodSite, expr: &Expr) -> Option<Reason>
 /// Appends the reasons for which these statements have global effects, in source order.
 #[cycle(reasons)]
 pub fn reasons_of_all(site: MethodSite, stmts: &[Stmt], out: &mut Vec<Reason>) -> Result<(), Memory>
-    ensures { OnOk result (out.new.items ≡ out.old.items ++ reasons_of_all (program_at site.entry) (method_at site.entry)
+    ensures { OnOk result (out.new.items ≡ out.old.items ++ reasons_of_all (program_at site.entry) (method_of_site site.entry)
         (numbered_stms (map statement_of stmts.now))) }
 {
     for x in stmts {
@@ -163,7 +163,7 @@ pub fn reasons_of_maybe(
     stmt: &Option<Box<Stmt>>,
     out: &mut Vec<Reason>,
 ) -> Result<(), Memory>
-    ensures { OnOk result (out.new.items ≡ out.old.items ++ reasons_of_maybe (program_at site.entry) (method_at site.entry)
+    ensures { OnOk result (out.new.items ≡ out.old.items ++ reasons_of_maybe (program_at site.entry) (method_of_site site.entry)
         (maybe_in stmt.now)) }
 {
     match stmt {
@@ -176,7 +176,7 @@ pub fn reasons_of_maybe(
 #[cycle(reasons)]
 #[tactic(auto, using(ti_lang::proofs::Lemmas::program_bridges, crate::proofs::Pushing::pushing))]
 pub fn reasons(site: MethodSite, stmt: &Stmt, out: &mut Vec<Reason>) -> Result<(), Memory>
-    ensures { OnOk result (out.new.items ≡ out.old.items ++ reasons (program_at site.entry) (method_at site.entry) (statement_of stmt.now)) }
+    ensures { OnOk result (out.new.items ≡ out.old.items ++ reasons (program_at site.entry) (method_of_site site.entry) (statement_of stmt.now)) }
 {
     match stmt {
         Stmt::Declare { place, value, .. } => {
@@ -235,7 +235,7 @@ pub fn reasons(site: MethodSite, stmt: &Stmt, out: &mut Vec<Reason>) -> Result<(
 
 /// The result of the method, as a reason; `None` if it is `void`.
 pub fn result(site: MethodSite, ty: &ResultType) -> Option<Reason>
-    ensures { option_list result ≡ result_reasons (program_at site.entry) (method_at site.entry) (numbered_result_of ty.now) }
+    ensures { option_list result ≡ result_reasons (program_at site.entry) (method_of_site site.entry) (numbered_result_of ty.now) }
 {
     match ty {
         ResultType::Void => None,
@@ -246,7 +246,7 @@ pub fn result(site: MethodSite, ty: &ResultType) -> Option<Reason>
 /// Appends the reasons for which a `return` of the method has global effects: its result, and the reasons of all its statements.
 #[tactic(auto, using(crate::proofs::Pushing::pushing))]
 pub fn return_reasons(site: MethodSite, out: &mut Vec<Reason>) -> Result<(), Memory>
-    ensures { OnOk result (out.new.items ≡ out.old.items ++ return_reasons (program_at site.entry) (method_at site.entry)) }
+    ensures { OnOk result (out.new.items ≡ out.old.items ++ return_reasons (program_at site.entry) (method_of_site site.entry)) }
 {
     push(result(site, &site.method.result), out)?;
     reasons_of_all(site, deref_stmts(&site.method.body), out)
@@ -256,7 +256,7 @@ pub fn return_reasons(site: MethodSite, out: &mut Vec<Reason>) -> Result<(), Mem
 
 /// The number of reasons of a statement. Errors only if it runs out of memory.
 pub fn size(alloc: Global, site: MethodSite, stmt: &Stmt) -> Result<usize, Memory>
-    ensures { IfOk result (λ n. n ≡ length (reasons (program_at site.entry) (method_at site.entry) (statement_of stmt.now))) }
+    ensures { IfOk result (λ n. n ≡ length (reasons (program_at site.entry) (method_of_site site.entry) (statement_of stmt.now))) }
 {
     let mut found = Vec::new(alloc);
     reasons(site, stmt, &mut found)?;
@@ -269,7 +269,7 @@ pub fn size_of_maybe(
     site: MethodSite,
     stmt: &Option<Box<Stmt>>,
 ) -> Result<usize, Memory>
-    ensures { IfOk result (λ n. n ≡ length (reasons_of_maybe (program_at site.entry) (method_at site.entry) (maybe_in stmt.now))) }
+    ensures { IfOk result (λ n. n ≡ length (reasons_of_maybe (program_at site.entry) (method_of_site site.entry) (maybe_in stmt.now))) }
 {
     match stmt {
         Some(stmt) => size(alloc, site, deref_stmt(stmt)),

@@ -10,7 +10,7 @@ ghost use Rattle.ti_rules.specs.SingleRules.{is_delete};
 ghost use Rattle.ti_blame.specs.declared.reason.Reason.TheVariants.{OfCollective};
 ghost use Rattle.ti_blame.specs.declared.implication.Conclusion.TheVariants.{One};
 ghost use Rattle.ti_infer.specs.Mirrors.Implications.{one_each, call_edges, whole_edges, initial_edges};
-ghost use Rattle.ti_infer.specs.Mirrors.Sites.{program_at, method_at, inside_of, dependencies_at, member_edges};
+ghost use Rattle.ti_infer.specs.Mirrors.Sites.{program_at, method_of_site, inside_of, dependencies_at, member_edges};
 
 use crate::implications::{call, one_each, part_dependencies};
 use crate::reads::{built_in, callee};
@@ -29,7 +29,7 @@ fn is_delete(member: Option<BuiltIn>) -> bool
 }
 
 fn is_deleting(site: MethodSite, receiver: &Expr, name: u32) -> bool
-    ensures { result ≡ is_delete (member_called (program_at site.entry) (this_of (method_at site.entry))
+    ensures { result ≡ is_delete (member_called (program_at site.entry) (this_of (method_of_site site.entry))
         (expression_of receiver.now) name) }
 {
     is_delete(built_in(site, receiver, name))
@@ -62,7 +62,7 @@ fn deletion_edges(
     out: &mut Vec<Implication>,
 ) -> Result<(), Memory>
     ensures { OnOk result (out.new.items ≡ out.old.items ++ (if is_delete
-        (member_called (program_at site.entry) (this_of (method_at site.entry)) (expression_of receiver.now) name) then one_each
+        (member_called (program_at site.entry) (this_of (method_of_site site.entry)) (expression_of receiver.now) name) then one_each
         (dependencies_at site.entry inside.now (expression_of receiver.now)) (One (OfCollective place)) else [])) }
 {
     if is_deleting(site, receiver, name) {
@@ -103,8 +103,8 @@ fn named_call_edges(
     args: &[Expr],
     out: &mut Vec<Implication>,
 ) -> Result<(), Memory>
-    ensures { OnOk result (out.new.items ≡ out.old.items ++ call_edges (program_at site.entry) (method_at site.entry) target
-        (inside_of inside.now) (called_method (program_at site.entry) (this_of (method_at site.entry)) (expression_of expr.now))
+    ensures { OnOk result (out.new.items ≡ out.old.items ++ call_edges (program_at site.entry) (method_of_site site.entry) target
+        (inside_of inside.now) (called_method (program_at site.entry) (this_of (method_of_site site.entry)) (expression_of expr.now))
         (numbered_exps (map expression_of args.now))) }
 {
     let m = callee(site, expr);
@@ -121,7 +121,7 @@ pub fn whole_edges(
     expr: &Expr,
     out: &mut Vec<Implication>,
 ) -> Result<(), Memory>
-    ensures { OnOk result (out.new.items ≡ out.old.items ++ whole_edges (program_at site.entry) (method_at site.entry) target
+    ensures { OnOk result (out.new.items ≡ out.old.items ++ whole_edges (program_at site.entry) (method_of_site site.entry) target
         (inside_of inside.now) (expression_of expr.now)) }
 {
     match expr {
@@ -161,7 +161,7 @@ pub fn initial(
     value: &Init,
     out: &mut Vec<Implication>,
 ) -> Result<(), Memory>
-    ensures { OnOk result (out.new.items ≡ out.old.items ++ initial_edges (program_at site.entry) (method_at site.entry) target
+    ensures { OnOk result (out.new.items ≡ out.old.items ++ initial_edges (program_at site.entry) (method_of_site site.entry) target
         (inside_of inside.now) (initial_of value.now)) }
 {
     match value {

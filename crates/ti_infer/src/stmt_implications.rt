@@ -14,7 +14,7 @@ ghost use Rattle.ti_blame.specs.declared.implication.Conclusion.TheVariants.{One
 ghost use Rattle.ti_infer.specs.Reason.{target_reasons, result_reasons};
 ghost use Rattle.ti_infer.specs.Mirrors.Dependencies.{dependencies, whole_dependencies, initial_dependencies};
 ghost use Rattle.ti_infer.specs.Mirrors.Implications.{inside_at, one_each, each, ones, whole_edges, initial_edges, condition_edges, inside_foreach, variables_foreach};
-ghost use Rattle.ti_infer.specs.Mirrors.Sites.{program_at, method_at, inside_of, dependencies_at};
+ghost use Rattle.ti_infer.specs.Mirrors.Sites.{program_at, method_of_site, inside_of, dependencies_at};
 ghost use Rattle.ti_infer.specs.Mirrors.StmtSites.{variables_at, always_if};
 
 use crate::implications::{
@@ -41,9 +41,9 @@ pub fn declare(
     value: &Init,
     out: &mut Vec<Implication>,
 ) -> Result<(), Memory>
-    ensures { OnOk result (out.new.items ≡ out.old.items ++ (initial_edges (program_at context.entry.site) (method_at context.entry.site) context.entry.whole
+    ensures { OnOk result (out.new.items ≡ out.old.items ++ (initial_edges (program_at context.entry.site) (method_of_site context.entry.site) context.entry.whole
         (inside_of context.entry.inside.now) (initial_of value.now) ++ one_each
-        (initial_dependencies (program_at context.entry.site) (method_at context.entry.site) (inside_at (inside_of context.entry.inside.now))
+        (initial_dependencies (program_at context.entry.site) (method_of_site context.entry.site) (inside_at (inside_of context.entry.inside.now))
         (initial_of value.now)) (One (OfVariable place)))) }
 {
     initial(
@@ -67,10 +67,10 @@ pub fn assign(
     value: &Init,
     out: &mut Vec<Implication>,
 ) -> Result<(), Memory>
-    ensures { OnOk result (out.new.items ≡ out.old.items ++ (initial_edges (program_at context.entry.site) (method_at context.entry.site) context.entry.whole
+    ensures { OnOk result (out.new.items ≡ out.old.items ++ (initial_edges (program_at context.entry.site) (method_of_site context.entry.site) context.entry.whole
         (inside_of context.entry.inside.now) (initial_of value.now) ++ each
-        (initial_dependencies (program_at context.entry.site) (method_at context.entry.site) (inside_at (inside_of context.entry.inside.now))
-        (initial_of value.now)) (ones (target_reasons (program_at context.entry.site) (method_at context.entry.site) (expression_of to.now))))) }
+        (initial_dependencies (program_at context.entry.site) (method_of_site context.entry.site) (inside_at (inside_of context.entry.inside.now))
+        (initial_of value.now)) (ones (target_reasons (program_at context.entry.site) (method_of_site context.entry.site) (expression_of to.now))))) }
 {
     initial(
         alloc,
@@ -93,10 +93,10 @@ pub fn update(
     value: &Expr,
     out: &mut Vec<Implication>,
 ) -> Result<(), Memory>
-    ensures { OnOk result (out.new.items ≡ out.old.items ++ (whole_edges (program_at context.entry.site) (method_at context.entry.site) context.entry.whole
+    ensures { OnOk result (out.new.items ≡ out.old.items ++ (whole_edges (program_at context.entry.site) (method_of_site context.entry.site) context.entry.whole
         (inside_of context.entry.inside.now) (expression_of value.now) ++ each
-        (whole_dependencies (program_at context.entry.site) (method_at context.entry.site) (inside_at (inside_of context.entry.inside.now))
-        (expression_of value.now)) (ones (target_reasons (program_at context.entry.site) (method_at context.entry.site)
+        (whole_dependencies (program_at context.entry.site) (method_of_site context.entry.site) (inside_at (inside_of context.entry.inside.now))
+        (expression_of value.now)) (ones (target_reasons (program_at context.entry.site) (method_of_site context.entry.site)
         (expression_of to.now))))) }
 {
     whole_edges(
@@ -136,7 +136,7 @@ pub fn condition_of(
     whats: &[Conclusion],
     out: &mut Vec<Implication>,
 ) -> Result<(), Memory>
-    ensures { OnOk result (out.new.items ≡ out.old.items ++ condition_edges (program_at context.entry.site) (method_at context.entry.site) context.entry.whole
+    ensures { OnOk result (out.new.items ≡ out.old.items ++ condition_edges (program_at context.entry.site) (method_of_site context.entry.site) context.entry.whole
         (inside_of context.entry.inside.now) (maybe_of expression_of expr.now) whats.now) }
 {
     match expr {
@@ -152,9 +152,9 @@ pub fn return_stmt(
     value: &Option<Expr>,
     out: &mut Vec<Implication>,
 ) -> Result<(), Memory>
-    ensures { OnOk result (out.new.items ≡ out.old.items ++ condition_edges (program_at context.entry.site) (method_at context.entry.site) context.entry.whole
+    ensures { OnOk result (out.new.items ≡ out.old.items ++ condition_edges (program_at context.entry.site) (method_of_site context.entry.site) context.entry.whole
         (inside_of context.entry.inside.now) (maybe_of expression_of value.now)
-        (ones (result_reasons (program_at context.entry.site) (method_at context.entry.site) (method_at context.entry.site).result))) }
+        (ones (result_reasons (program_at context.entry.site) (method_of_site context.entry.site) (method_of_site context.entry.site).result))) }
 {
     match value {
         Some(e) => {
@@ -176,7 +176,7 @@ pub fn update_jumps(
     out: &mut Vec<Implication>,
 ) -> Result<(), Memory>
     ensures { OnOk result (out.new.items ≡ out.old.items ++ always_if
-        (doings_of_maybe (program_at context.entry.site) (this_of (method_at context.entry.site)) (maybe_in update.now)).jumps) }
+        (doings_of_maybe (program_at context.entry.site) (this_of (method_of_site context.entry.site)) (maybe_in update.now)).jumps) }
 {
     if jumps_in(context.site, update) {
         out.push(Implication {

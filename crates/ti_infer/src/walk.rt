@@ -7,7 +7,7 @@ ghost use Rattle.ti_lang.specs.Program.Views.{expression_of, statement_of};
 ghost use Rattle.ti_lang.specs.Typing.Effects.{doings_of_maybe};
 ghost use Rattle.ti_single.specs.Mirrors.Maybe.{maybe_in};
 ghost use Rattle.ti_infer.specs.Mirrors.Implications.{each, condition_edges, loop_targets, effect_targets};
-ghost use Rattle.ti_infer.specs.Mirrors.Sites.{program_at, method_at, inside_of, dependencies_at};
+ghost use Rattle.ti_infer.specs.Mirrors.Sites.{program_at, method_of_site, inside_of, dependencies_at};
 ghost use Rattle.ti_infer.specs.Mirrors.StmtSites.{edges_with, edges_around, maybe_around, all_around, always_if};
 
 use crate::foreach_scope::{scope_inside, with_own};
@@ -38,7 +38,7 @@ fn own_if(
     out: &mut Vec<Implication>,
 ) -> Result<(), Memory>
     ensures { OnOk result (out.new.items ≡ out.old.items ++ each (dependencies_at context.entry.site context.entry.inside.now (expression_of expr.now))
-        (effect_targets (program_at context.entry.site) (method_at context.entry.site) context.entry.whole index jump.now (statement_of stmt.now))) }
+        (effect_targets (program_at context.entry.site) (method_of_site context.entry.site) context.entry.whole index jump.now (statement_of stmt.now))) }
 {
     let whats = effect_targets(alloc, context.site, context.whole, index, jump, stmt)?;
     condition(alloc, context, expr, &whats, out)
@@ -51,7 +51,7 @@ fn body_targets(
     index: usize,
     body: &Stmt,
 ) -> Result<Vec<Conclusion>, Memory>
-    ensures { IfOk result (λ v. v.items ≡ loop_targets (program_at context.entry.site) (method_at context.entry.site) context.entry.whole index NoStm
+    ensures { IfOk result (λ v. v.items ≡ loop_targets (program_at context.entry.site) (method_of_site context.entry.site) context.entry.whole index NoStm
         (statement_of body.now)) }
 {
     let none = None;
@@ -69,8 +69,8 @@ fn own_for(
     out: &mut Vec<Implication>,
 ) -> Result<(), Memory>
     ensures { OnOk result (out.new.items ≡ out.old.items ++ (condition_edges (program_at context.entry.site)
-        (method_at context.entry.site) context.entry.whole (inside_of context.entry.inside.now) (maybe_of expression_of expr.now) whats.now
-        ++ always_if (doings_of_maybe (program_at context.entry.site) (this_of (method_at context.entry.site)) (maybe_in update.now)).jumps)) }
+        (method_of_site context.entry.site) context.entry.whole (inside_of context.entry.inside.now) (maybe_of expression_of expr.now) whats.now
+        ++ always_if (doings_of_maybe (program_at context.entry.site) (this_of (method_of_site context.entry.site)) (maybe_in update.now)).jumps)) }
 {
     condition_of(alloc, context, expr, whats, out)?;
     update_jumps(context, update, out)

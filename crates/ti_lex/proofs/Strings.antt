@@ -8,7 +8,7 @@ use Rattle.ti_syntax.specs.declared.token.TokenKind.TheVariants as k
 use Rattle.ti_syntax.specs.Tokenizing.{Lexeme, StrayByte, OpenString, escaped, is_unescaped}
 use Rattle.ti_lex.specs.declared.error.LexErr.{LexErr}
 use Rattle.ti_rules.specs.declared.rule.Rule.TheVariants.{X1}
-use Rattle.ti_lex.specs.Mirrors.Cursor.{CursorView, rest, skip_bytes}
+use Rattle.ti_lex.specs.Mirrors.Cursor.{CursorView, unread_bytes, skip_bytes}
 use Rattle.ti_lex.specs.Mirrors.Reading.{Reading, Matches, Rejects, Item, Gives, Closes, Breaks, Strays, item, escape, string_from, escape_from}
 use Rattle.ti_lex.specs.Mirrors.Answers.{Scans, ReadsItem}
 
@@ -47,27 +47,27 @@ module _ (quote : ℕ) (bytes : List ℕ) (at : ℕ) where
 
 module _ (quote : ℕ) (bytes : List ℕ) (spot after : CursorView) where
   given : (place : Place) (byte : ℕ) (i : Item) → ReadsItem i place spot after (Ok (Some byte)) → (after.text ≡ spot.text)
-      × (string_from quote (bytes ++ byte ∷ []) after.at (rest after) ≡ behind quote bytes spot.at (rest spot) i)
+      × (string_from quote (bytes ++ byte ∷ []) after.at (unread_bytes after) ≡ behind quote bytes spot.at (unread_bytes spot) i)
   given place byte (Gives b size) (same, to) =
       let x : byte ≡ b = ap (λ o. unwrap_or o byte) same in
       let further = skip_bytes size spot in
-      let here : string_from quote (bytes ++ b ∷ []) further.at (rest further)
-      ≡ string_from quote (bytes ++ b ∷ []) (spot.at + size) (drop size (rest spot)) =
+      let here : string_from quote (bytes ++ b ∷ []) further.at (unread_bytes further)
+      ≡ string_from quote (bytes ++ b ∷ []) (spot.at + size) (drop size (unread_bytes spot)) =
       ap (string_from quote (bytes ++ b ∷ []) (spot.at + size)) (sym (drop-drop size spot.at spot.text)) in
-      (ap (λ (z : CursorView). z.text) to, ap (λ z. string_from quote (bytes ++ z ∷ []) after.at (rest after)) x ∙ ap (λ (z : CursorView). string_from quote (bytes ++ b ∷ []) z.at (rest z)) to ∙ here)
+      (ap (λ (z : CursorView). z.text) to, ap (λ z. string_from quote (bytes ++ z ∷ []) after.at (unread_bytes after)) x ∙ ap (λ (z : CursorView). string_from quote (bytes ++ b ∷ []) z.at (unread_bytes z)) to ∙ here)
   given place byte Closes (same, to) = cc
   given place byte Breaks h = absurd h
   given place byte Strays h = absurd h
 
   -- behind an item the rest of the string is read as before it
-  pub item_given : (place : Place) (byte : ℕ) → ReadsItem (item (rest spot)) place spot after (Ok (Some byte)) → (after.text ≡ spot.text)
-      × (string_from quote (bytes ++ byte ∷ []) after.at (rest after) ≡ string_from quote bytes spot.at (rest spot))
+  pub item_given : (place : Place) (byte : ℕ) → ReadsItem (item (unread_bytes spot)) place spot after (Ok (Some byte)) → (after.text ≡ spot.text)
+      × (string_from quote (bytes ++ byte ∷ []) after.at (unread_bytes after) ≡ string_from quote bytes spot.at (unread_bytes spot))
   item_given place byte h =
-      let (same, reads) = given place byte (item (rest spot)) h in
-      (same, reads ∙ sym (string_from-item quote bytes spot.at (rest spot)))
+      let (same, reads) = given place byte (item (unread_bytes spot)) h in
+      (same, reads ∙ sym (string_from-item quote bytes spot.at (unread_bytes spot)))
 
   refused : (old new : CursorView) (e : LexErr) → old.text ≡ spot.text → (i : Item) → ReadsItem i (place_of old.text quote) spot after (Err e)
-      → Scans (behind quote bytes spot.at (rest spot) i) old new (Err e)
+      → Scans (behind quote bytes spot.at (unread_bytes spot) i) old new (Err e)
   refused old new e same (Gives b size) h = absurd h
   refused old new e same Closes h = absurd h
   refused old new e same Breaks h =
@@ -77,7 +77,7 @@ module _ (quote : ℕ) (bytes : List ℕ) (spot after : CursorView) where
 
   -- where an item is refused, so is the string
   pub item_refused : (old new : CursorView) (e : LexErr) → old.text ≡ spot.text
-      → ReadsItem (item (rest spot)) (place_of old.text quote) spot after (Err e)
-      → Scans (string_from quote bytes spot.at (rest spot)) old new (Err e)
+      → ReadsItem (item (unread_bytes spot)) (place_of old.text quote) spot after (Err e)
+      → Scans (string_from quote bytes spot.at (unread_bytes spot)) old new (Err e)
   item_refused old new e same h =
-      subst (λ z. Scans z old new (Err e)) (sym (string_from-item quote bytes spot.at (rest spot))) (refused old new e same (item (rest spot)) h)
+      subst (λ z. Scans z old new (Err e)) (sym (string_from-item quote bytes spot.at (unread_bytes spot))) (refused old new e same (item (unread_bytes spot)) h)

@@ -16,7 +16,7 @@ use Rattle.ti_lex.specs.declared.input_element.InputElement as read
 use Rattle.ti_lex.specs.declared.input_element.InputElement.TheVariants as p
 use Rattle.ti_lex.specs.Answer.{Lexes}
 use Rattle.ti_lex.specs.Mirrors.Answers.{Scans}
-use Rattle.ti_lex.specs.Mirrors.Cursor.{CursorView, rest}
+use Rattle.ti_lex.specs.Mirrors.Cursor.{CursorView, unread_bytes}
 use Rattle.ti_lex.specs.Mirrors.Reading.{Reading, Matches, Rejects, first_lexeme}
 use Rattle.ti_lex.proofs.Longest.{Tells, first_tells}
 
@@ -42,14 +42,14 @@ pub record IsReadTo (text : List ℕ) (tokens : List Token) (spot : CursorView) 
   pub within : spot.at ≤ length text
   pub pieces : Pieces text 0 tokens spot.at
 
-pub some : (spot : CursorView) (b : ℕ) (l : List ℕ) → rest spot ≡ b ∷ l → 0 < length (rest spot)
+pub some : (spot : CursorView) (b : ℕ) (l : List ℕ) → unread_bytes spot ≡ b ∷ l → 0 < length (unread_bytes spot)
 some spot b l h = let long = ap length h in omega arith
 
 pub nothing_read : (spot : CursorView) → spot.at ≡ 0 → IsReadTo spot.text [] spot
 nothing_read spot h = record { same = refl; within = omega arith; pieces = subst (Pieces spot.text 0 []) (sym h) pieces.no_piece }
 
 -- where nothing is left, the tokens and the end are those of the text
-pub all_read : (text : List ℕ) (tokens : List Token) (spot : CursorView) → IsReadTo text tokens spot → rest spot ≡ []
+pub all_read : (text : List ℕ) (tokens : List Token) (spot : CursorView) → IsReadTo text tokens spot → unread_bytes spot ≡ []
     → IsTokenized text (tokens ++ record { kind = k.End; place = place_of spot.text spot.at } ∷ [])
 all_read text tokens spot before none =
     let left : length (drop spot.at spot.text) ≡ 0 = ap length none in
@@ -59,14 +59,14 @@ all_read text tokens spot before none =
     let end : place_of spot.text spot.at ≡ end_place text = ap (λ t. place_of t spot.at) before.same ∙ ap (place_of text) done in
     record { spelled = tokens; pieces = subst (Pieces text 0 tokens) done before.pieces; ended = ap (λ (p : Place). tokens ++ record { kind = k.End; place = p } ∷ []) end }
 
-module _ (text : List ℕ) (tokens : List Token) (spot new : CursorView) (before : IsReadTo text tokens spot) (more : 0 < length (rest spot)) where
+module _ (text : List ℕ) (tokens : List Token) (spot new : CursorView) (before : IsReadTo text tokens spot) (more : 0 < length (unread_bytes spot)) where
   abbrev front : List ℕ
   front = drop spot.at text
 
-  front_is : rest spot ≡ front
+  front_is : unread_bytes spot ≡ front
   front_is = ap (drop spot.at) before.same
 
-  told : (r : Reading) → first_lexeme spot.at (rest spot) ≡ r → Tells spot.at front r
+  told : (r : Reading) → first_lexeme spot.at (unread_bytes spot) ≡ r → Tells spot.at front r
   told r h =
       subst (Tells spot.at front) (ap (first_lexeme spot.at) (sym front_is) ∙ h) (first_tells spot.at front (subst (λ l. 0 < length l) front_is more))
 
@@ -77,10 +77,10 @@ module _ (text : List ℕ) (tokens : List Token) (spot new : CursorView) (before
       (ap (λ (z : CursorView). z.text) h ∙ before.same, omega (arith, length-drop spot.at text), sym to ∙ sym there)
 
   -- a blank or a comment is passed over
-  pub space_read : Scans (first_lexeme spot.at (rest spot)) spot new (Ok p.Space) → IsReadTo text tokens new
-  space_read h = by (first_lexeme spot.at (rest spot)) refl h
+  pub space_read : Scans (first_lexeme spot.at (unread_bytes spot)) spot new (Ok p.Space) → IsReadTo text tokens new
+  space_read h = by (first_lexeme spot.at (unread_bytes spot)) refl h
     where
-      by : (r : Reading) → first_lexeme spot.at (rest spot) ≡ r → Scans r spot new (Ok p.Space) → IsReadTo text tokens new
+      by : (r : Reading) → first_lexeme spot.at (unread_bytes spot) ≡ r → Scans r spot new (Ok p.Space) → IsReadTo text tokens new
       by (Matches piece end) is (found, to_new) =
           let (size, to, positive, longest) = told (Matches piece end) is in
           let (same, within, there) = moves end size to longest.within to_new in
@@ -88,10 +88,10 @@ module _ (text : List ℕ) (tokens : List Token) (spot new : CursorView) (before
       by (Rejects flaw fault) is h = absurd h
 
   -- a token is added
-  pub token_read : (kind : TokenKind) → Scans (first_lexeme spot.at (rest spot)) spot new (Ok (p.Token kind)) → IsReadTo text (tokens ++ record { kind = kind; place = place_of text spot.at } ∷ []) new
-  token_read kind h = by (first_lexeme spot.at (rest spot)) refl h
+  pub token_read : (kind : TokenKind) → Scans (first_lexeme spot.at (unread_bytes spot)) spot new (Ok (p.Token kind)) → IsReadTo text (tokens ++ record { kind = kind; place = place_of text spot.at } ∷ []) new
+  token_read kind h = by (first_lexeme spot.at (unread_bytes spot)) refl h
     where
-      by : (r : Reading) → first_lexeme spot.at (rest spot) ≡ r → Scans r spot new (Ok (p.Token kind)) → IsReadTo text (tokens ++ record { kind = kind; place = place_of text spot.at } ∷ []) new
+      by : (r : Reading) → first_lexeme spot.at (unread_bytes spot) ≡ r → Scans r spot new (Ok (p.Token kind)) → IsReadTo text (tokens ++ record { kind = kind; place = place_of text spot.at } ∷ []) new
       by (Matches piece end) is (found, to_new) =
           let (size, to, positive, longest) = told (Matches piece end) is in
           let (same, within, there) = moves end size to longest.within to_new in
@@ -105,10 +105,10 @@ module _ (text : List ℕ) (tokens : List Token) (spot new : CursorView) (before
       by (Rejects flaw fault) is h = absurd h
 
   -- a refusal is that of the text
-  pub refusal_read : length text ≤ most_bytes → (refusal : Refusal) → Scans (first_lexeme spot.at (rest spot)) spot new (Err (e.Refused refusal)) → IsLexicalRefusal text refusal
-  refusal_read short refusal h = by (first_lexeme spot.at (rest spot)) refl h
+  pub refusal_read : length text ≤ most_bytes → (refusal : Refusal) → Scans (first_lexeme spot.at (unread_bytes spot)) spot new (Err (e.Refused refusal)) → IsLexicalRefusal text refusal
+  refusal_read short refusal h = by (first_lexeme spot.at (unread_bytes spot)) refl h
     where
-      by : (r : Reading) → first_lexeme spot.at (rest spot) ≡ r → Scans r spot new (Err (e.Refused refusal)) → IsLexicalRefusal text refusal
+      by : (r : Reading) → first_lexeme spot.at (unread_bytes spot) ≡ r → Scans r spot new (Err (e.Refused refusal)) → IsLexicalRefusal text refusal
       by (Matches piece end) is h = absurd h
       by (Rejects flaw fault) is refused =
           let (stuck, (back, to, flawed)) = told (Rejects flaw fault) is in
@@ -125,19 +125,19 @@ module _ (text : List ℕ) (tokens : List Token) (spot new : CursorView) (before
           }))
 
   -- so is any error that isn't want of memory
-  pub error_read : length text ≤ most_bytes → (error : LexErr) → Scans (first_lexeme spot.at (rest spot)) spot new (Err error) → Lexes text (Err error)
+  pub error_read : length text ≤ most_bytes → (error : LexErr) → Scans (first_lexeme spot.at (unread_bytes spot)) spot new (Err error) → Lexes text (Err error)
   error_read short (e.Refused refusal) h = refusal_read short refusal h
   error_read short e.Memory h = tt
 
   -- what is read makes the rest shorter
-  pub reads_further : (found : read.InputElement) → Scans (first_lexeme spot.at (rest spot)) spot new (Ok found) → length (rest new) < length (rest spot)
-  reads_further found h = by (first_lexeme spot.at (rest spot)) refl h
+  pub reads_further : (found : read.InputElement) → Scans (first_lexeme spot.at (unread_bytes spot)) spot new (Ok found) → length (unread_bytes new) < length (unread_bytes spot)
+  reads_further found h = by (first_lexeme spot.at (unread_bytes spot)) refl h
     where
-      by : (r : Reading) → first_lexeme spot.at (rest spot) ≡ r → Scans r spot new (Ok found) → length (rest new) < length (rest spot)
+      by : (r : Reading) → first_lexeme spot.at (unread_bytes spot) ≡ r → Scans r spot new (Ok found) → length (unread_bytes new) < length (unread_bytes spot)
       by (Matches piece end) is (found, to_new) =
           let (size, to, positive, longest) = told (Matches piece end) is in
-          let there : rest new ≡ drop end spot.text = ap rest to_new in
-          let here : length (rest spot) ≡ length spot.text - spot.at = length-drop spot.at spot.text in
-          let further : length (rest new) ≡ length spot.text - end = ap length there ∙ length-drop end spot.text in
+          let there : unread_bytes new ≡ drop end spot.text = ap unread_bytes to_new in
+          let here : length (unread_bytes spot) ≡ length spot.text - spot.at = length-drop spot.at spot.text in
+          let further : length (unread_bytes new) ≡ length spot.text - end = ap length there ∙ length-drop end spot.text in
           omega arith
       by (Rejects flaw fault) is h = absurd h

@@ -2,7 +2,7 @@
 ghost use Rattle.std.specs.Prelude.{◌≡◌, ◌+◌, ◌≤◌, ◌<◌, ◌++◌, List, ℕ, codes, length, drop, false};
 ghost use Rattle.ti_syntax.specs.Tokenizing.{Space};
 ghost use Rattle.ti_lex.specs.Mirrors.Answers.{Scans};
-ghost use Rattle.ti_lex.specs.Mirrors.Cursor.{rest};
+ghost use Rattle.ti_lex.specs.Mirrors.Cursor.{unread_bytes};
 ghost use Rattle.ti_lex.specs.Mirrors.Reading.{Matches, comment_from, line_left, slash};
 
 use crate::cursor::Cursor;
@@ -13,7 +13,7 @@ use ti_rules::Rule;
 impl Cursor<'_> {
     /// Skips the rest of the line, up to its line feed.
     fn line(&mut self) -> Result<InputElement, LexErr>
-        ensures { Scans (Matches Space (self.old.at + line_left (rest self.old))) self.old self.new result }
+        ensures { Scans (Matches Space (self.old.at + line_left (unread_bytes self.old))) self.old self.new result }
     {
         while let Some(byte) = self.peek() {
             if byte == b'\n' {
@@ -26,8 +26,8 @@ impl Cursor<'_> {
 
     /// Skips a comment from its `/*` to its `*/`. Error: X2 at the `/*` if it isn't closed.
     fn block_comment(&mut self) -> Result<InputElement, LexErr>
-        requires { 2 ≤ length (rest self.old) }
-        ensures { Scans (comment_from self.old.at false (self.old.at + 2) (drop 1 (drop 1 (rest self.old)))) self.old self.new result }
+        requires { 2 ≤ length (unread_bytes self.old) }
+        ensures { Scans (comment_from self.old.at false (self.old.at + 2) (drop 1 (drop 1 (unread_bytes self.old)))) self.old self.new result }
     {
         let slash = self.place();
         self.advance();
@@ -45,8 +45,8 @@ impl Cursor<'_> {
 
     /// Reads the comment or the operator that begins with a slash.
     pub fn slash(&mut self) -> Result<InputElement, LexErr>
-        requires { 0 < length (rest self.old) }
-        ensures { Scans (slash self.old.at (rest self.old)) self.old self.new result }
+        requires { 0 < length (unread_bytes self.old) }
+        ensures { Scans (slash self.old.at (unread_bytes self.old)) self.old self.new result }
     {
         match self.unread() {
             [_, b'/', ..] => self.line(),

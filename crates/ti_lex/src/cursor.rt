@@ -2,7 +2,7 @@
 ghost use Rattle.std.specs.Prelude.{◌≡◌, ◌≤◌, ◌<◌, ◌∷◌, [], length, drop, MatchOption};
 ghost use Rattle.ti_base.specs.Places.{place_of};
 ghost use Rattle.ti_rules.specs.LexicalRefusals.{most_bytes};
-ghost use Rattle.ti_lex.specs.Mirrors.Cursor.{rest, skip_bytes};
+ghost use Rattle.ti_lex.specs.Mirrors.Cursor.{unread_bytes, skip_bytes};
 
 use std::marker::Model;
 use ti_base::Place;
@@ -53,23 +53,23 @@ impl<'a> Cursor<'a> {
 
     /// The bytes that aren't read yet.
     pub fn unread(&self) -> &'a [u8]
-        ensures { result.now ≡ rest self.now }
+        ensures { result.now ≡ unread_bytes self.now }
     {
         &self.text[self.at..]
     }
 
     /// The next byte, or None at the end of the source.
     pub fn peek(&self) -> Option<u8>
-        ensures { MatchOption result (rest self.now ≡ []) (λ byte. rest self.now ≡ byte ∷ drop 1 (rest self.now)) }
+        ensures { MatchOption result (unread_bytes self.now ≡ []) (λ byte. unread_bytes self.now ≡ byte ∷ drop 1 (unread_bytes self.now)) }
     {
         self.unread().first().copied()
     }
 
     /// Skips the next byte.
     pub fn advance(&mut self)
-        requires { 0 < length (rest self.old) }
+        requires { 0 < length (unread_bytes self.old) }
         ensures moves { self.new ≡ skip_bytes 1 self.old }
-        ensures left { rest self.new ≡ drop 1 (rest self.old) }
+        ensures left { unread_bytes self.new ≡ drop 1 (unread_bytes self.old) }
     {
         self.place = self.place.after(self.text[self.at]);
         self.at += 1;

@@ -6,7 +6,7 @@ ghost use Rattle.ti_rules.specs.declared.refusal.Refusal.{Refusal};
 ghost use Rattle.ti_rules.specs.LexicalRefusals.{most_bytes, IsLexicalRefusal};
 ghost use Rattle.ti_lex.specs.Answer.{Lexes, GivesOnly, RefusesOnly};
 ghost use Rattle.ti_lex.specs.Mirrors.Answers.{Scans};
-ghost use Rattle.ti_lex.specs.Mirrors.Cursor.{rest};
+ghost use Rattle.ti_lex.specs.Mirrors.Cursor.{unread_bytes};
 ghost use Rattle.ti_lex.specs.Mirrors.Reading.{first_lexeme};
 
 use crate::byte_class::{ByteClass, class_of_byte};
@@ -25,8 +25,8 @@ impl Cursor<'_> {
     /// Reads the lexical element that begins with `byte`, the next byte.
     #[tactic(auto, unfolding(crate::specs::Mirrors::Reading::first_lexeme))]
     fn input_element(&mut self, alloc: Global, byte: u8) -> Result<InputElement, LexErr>
-        requires { rest self.old ≡ byte ∷ drop 1 (rest self.old) }
-        ensures { Scans (first_lexeme self.old.at (rest self.old)) self.old self.new result }
+        requires { unread_bytes self.old ≡ byte ∷ drop 1 (unread_bytes self.old) }
+        ensures { Scans (first_lexeme self.old.at (unread_bytes self.old)) self.old self.new result }
     {
         match class_of_byte(byte) {
             ByteClass::Blank => {

@@ -3,7 +3,7 @@ ghost use Rattle.std.specs.Prelude.{◌≡◌, ◌+◌, ◌≤◌, length};
 ghost use Rattle.std.specs.List.{prefix_len};
 ghost use Rattle.std.specs.Char.{is_ascii_digit};
 ghost use Rattle.ti_lex.specs.Mirrors.Answers.{Scans};
-ghost use Rattle.ti_lex.specs.Mirrors.Cursor.{rest, skip_bytes};
+ghost use Rattle.ti_lex.specs.Mirrors.Cursor.{unread_bytes, skip_bytes};
 ghost use Rattle.ti_syntax.specs.Tokenizing.{first_passes, is_long_letter};
 ghost use Rattle.ti_lex.specs.Mirrors.Reading.{dimension, digits, number_lexeme, value_from, too_large, most_of, kind_of_number, letters};
 
@@ -56,9 +56,9 @@ fn kind_of_number(long: bool, value: u64) -> TokenKind
 impl Cursor<'_> {
     /// Reads the digits here and returns their value, at most `TOO_LARGE`.
     fn value(&mut self) -> u64
-        ensures value { result ≡ value_from 0 (rest self.old) }
+        ensures value { result ≡ value_from 0 (unread_bytes self.old) }
         ensures fits { result ≤ too_large }
-        ensures moves { self.new ≡ skip_bytes (prefix_len is_ascii_digit (rest self.old)) self.old }
+        ensures moves { self.new ≡ skip_bytes (prefix_len is_ascii_digit (unread_bytes self.old)) self.old }
     {
         let mut value: u128 = 0;
         while let Some(byte) = self.peek() {
@@ -73,7 +73,7 @@ impl Cursor<'_> {
 
     /// Reads the suffix of a long literal, if it is next, and returns whether it was.
     fn letter(&mut self) -> bool
-        ensures letter { result ≡ first_passes is_long_letter (rest self.old) }
+        ensures letter { result ≡ first_passes is_long_letter (unread_bytes self.old) }
         ensures moves { self.new ≡ skip_bytes (letters result) self.old }
     {
         match self.peek() {
@@ -90,7 +90,7 @@ impl Cursor<'_> {
 
     /// Reads a number literal. Error: X4 at its first digit if it has a leading 0 or is too large.
     fn digits(&mut self) -> Result<InputElement, LexErr>
-        ensures { Scans (digits self.old.at (rest self.old)) self.old self.new result }
+        ensures { Scans (digits self.old.at (unread_bytes self.old)) self.old self.new result }
     {
         let place = self.place();
         let leads_with_zero = self.peek() == Some(b'0');
@@ -106,7 +106,7 @@ impl Cursor<'_> {
 
     /// Reads a dimension or a number literal.
     pub fn number(&mut self) -> Result<InputElement, LexErr>
-        ensures { Scans (number_lexeme self.old.at (rest self.old)) self.old self.new result }
+        ensures { Scans (number_lexeme self.old.at (unread_bytes self.old)) self.old self.new result }
     {
         match dimension(self.unread()) {
             Some(number) => {

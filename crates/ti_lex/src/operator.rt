@@ -1,6 +1,6 @@
 // Operators and punctuation marks, by longest match.
 ghost use Rattle.std.specs.Prelude.{◌≡◌, ◌<◌, length};
-ghost use Rattle.ti_lex.specs.Mirrors.Cursor.{rest};
+ghost use Rattle.ti_lex.specs.Mirrors.Cursor.{unread_bytes};
 ghost use Rattle.ti_lex.specs.Mirrors.Reading.{first_sign, longer_sign, sign};
 ghost use Rattle.ti_lex.specs.Mirrors.Answers.{Scans};
 
@@ -76,8 +76,8 @@ fn longer_sign(kind: &TokenKind, byte: u8) -> Option<TokenKind>
 impl Cursor<'_> {
     /// Reads the longest operator or punctuation mark here. Error: X1 if the byte begins none.
     pub fn operator(&mut self) -> Result<InputElement, LexErr>
-        requires { 0 < length (rest self.old) }
-        ensures { Scans (sign self.old.at (rest self.old)) self.old self.new result }
+        requires { 0 < length (unread_bytes self.old) }
+        ensures { Scans (sign self.old.at (unread_bytes self.old)) self.old self.new result }
     {
         let place = self.place();
         let Some(mut kind) = self.peek().and_then(first_sign) else {

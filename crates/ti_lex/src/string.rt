@@ -1,7 +1,7 @@
 // String literals.
 ghost use Rattle.std.specs.Prelude.{◌≡◌, ◌+◌, [], ◌<◌, length, drop};
 ghost use Rattle.ti_lex.specs.Mirrors.Answers.{Scans, ReadsItem};
-ghost use Rattle.ti_lex.specs.Mirrors.Cursor.{rest};
+ghost use Rattle.ti_lex.specs.Mirrors.Cursor.{unread_bytes};
 ghost use Rattle.ti_lex.specs.Mirrors.Reading.{item, string_from};
 
 use crate::byte_class::{escape_value, is_unescaped};
@@ -18,7 +18,7 @@ impl Cursor<'_> {
     ///
     /// Errors: X3 at the opening quote if the line or the source ends, X1 at any other byte that isn't allowed.
     fn item(&mut self, quote: Place) -> Result<Option<u8>, LexErr>
-        ensures { ReadsItem (item (rest self.old)) quote self.old self.new result }
+        ensures { ReadsItem (item (unread_bytes self.old)) quote self.old self.new result }
     {
         let place = self.place();
         match self.unread() {
@@ -46,8 +46,8 @@ impl Cursor<'_> {
 
     /// Reads the string literal here, from its opening quote.
     pub fn string(&mut self, alloc: Global) -> Result<InputElement, LexErr>
-        requires { 0 < length (rest self.old) }
-        ensures { Scans (string_from self.old.at [] (self.old.at + 1) (drop 1 (rest self.old))) self.old self.new result }
+        requires { 0 < length (unread_bytes self.old) }
+        ensures { Scans (string_from self.old.at [] (self.old.at + 1) (drop 1 (unread_bytes self.old))) self.old self.new result }
     {
         let quote = self.place();
         self.advance();

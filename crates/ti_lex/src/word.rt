@@ -5,7 +5,7 @@ ghost use Rattle.std.specs.Map.{lookup};
 ghost use Rattle.std.specs.Str.{bytes_eq};
 ghost use Rattle.ti_syntax.specs.Tokenizing.{is_name_byte};
 ghost use Rattle.ti_lex.specs.Mirrors.Answers.{Scans};
-ghost use Rattle.ti_lex.specs.Mirrors.Cursor.{rest, skip_bytes};
+ghost use Rattle.ti_lex.specs.Mirrors.Cursor.{unread_bytes, skip_bytes};
 ghost use Rattle.ti_lex.specs.Mirrors.Reading.{reserved_words, word};
 
 use crate::byte_class::is_name_byte;
@@ -114,8 +114,8 @@ fn reserved_word(word: &[u8]) -> Option<TokenKind>
 impl<'a> Cursor<'a> {
     /// Reads all bytes here that can continue a name.
     fn name(&mut self) -> &'a [u8]
-        ensures bytes { result.now ≡ take (prefix_len is_name_byte (rest self.old)) (rest self.old) }
-        ensures moves { self.new ≡ skip_bytes (prefix_len is_name_byte (rest self.old)) self.old }
+        ensures bytes { result.now ≡ take (prefix_len is_name_byte (unread_bytes self.old)) (unread_bytes self.old) }
+        ensures moves { self.new ≡ skip_bytes (prefix_len is_name_byte (unread_bytes self.old)) self.old }
     {
         let rest = self.unread();
         let mut size = 0;
@@ -131,7 +131,7 @@ impl<'a> Cursor<'a> {
 
     /// Reads a name or a reserved word.
     pub fn word(&mut self, alloc: Global) -> Result<InputElement, LexErr>
-        ensures { Scans (word self.old.at (rest self.old)) self.old self.new result }
+        ensures { Scans (word self.old.at (unread_bytes self.old)) self.old self.new result }
     {
         let word = self.name();
         if let Some(kind) = reserved_word(word) {

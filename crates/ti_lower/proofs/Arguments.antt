@@ -32,7 +32,7 @@ use Rattle.ti_code.specs.Leading.{effect_of, here, CodeAt, pc_after}
 use Rattle.ti_lower_expr.specs.Slots.{Name, Of, SlotsHold, variable, none, object}
 use Rattle.ti_lower_expr.specs.Knowing.{HasRepr, known_of_type, known_of}
 use Rattle.ti_lower_expr.specs.Coding.{conversion}
-use Rattle.ti_lower_expr.specs.Methods.{param_count, is_instance, receiver_in, receivers_of, this_names, push_param_names, names_of}
+use Rattle.ti_lower_expr.specs.Methods.{param_count, is_instance, receiver_in, receivers_of, this_names, push_param_names, names_in_method}
 use Rattle.ti_lower.specs.Calling.{method_number, number_called, arg_code, args_code, object_code, call_code}
 use Rattle.ti_lower_expr.specs.Doing.{Implements}
 use Rattle.ti_lower_expr.proofs.Lemmas.{front_stands, rest_stands, behind_both, does_then, does_value, does_weaker, pushed, under_all}
@@ -133,7 +133,7 @@ pub record Ready (m : NumberedMethod) (th : Option Id) (ps : List Variable) (ope
   pub are : top_operands (param_count m) operands [] ≡ args
   pub receiver : IsReceiver (this_of m) th (top (under (param_count m) operands))
   pub rest : without_object (this_of m) (under (param_count m) operands) ≡ stack
-  pub holds : SlotsHold th (names_of m) ps [] (pushed args (own_slots (this_of m) th))
+  pub holds : SlotsHold th (names_in_method m) ps [] (pushed args (own_slots (this_of m) th))
 
 -- what is found of an object
 abbrev thing_at : Place → Option Id → Comp Reference

@@ -19,7 +19,7 @@ use Rattle.ti_code.specs.declared.instr.Instr.TheVariants as i
 use Rattle.ti_code.specs.Effects.{LocalState, Who}
 use Rattle.ti_code.specs.Leading.{ExecutesTo, next_effect, CodeAt, pc_after}
 use Rattle.ti_lower_expr.specs.Slots.{Name, Of, SlotsHold}
-use Rattle.ti_lower_expr.specs.Methods.{push_param_names, this_names, names_of}
+use Rattle.ti_lower_expr.specs.Methods.{push_param_names, this_names, names_in_method}
 use Rattle.ti_lower.specs.Programs.{in_main, body_code, instrs_in}
 use Rattle.ti_lower.specs.StmtCode.{names_after, stm_code, stms_code}
 use Rattle.ti_lower_expr.proofs.Lemmas.{front_stands, rest_stands}
@@ -113,14 +113,14 @@ this_bare None = tt
 this_bare (Some class) = tt
 
 -- a frame at its begin
-pub begins_at : (program : ProgramView) (m : NumberedMethod) (th : Option Id) (number procs : ℕ) (ps : List Variable) (slots : List Held) → MethodFine program m → SlotsHold th (names_of m) ps [] slots
+pub begins_at : (program : ProgramView) (m : NumberedMethod) (th : Option Id) (number procs : ℕ) (ps : List Variable) (slots : List Held) → MethodFine program m → SlotsHold th (names_in_method m) ps [] slots
     → standing.At (body_code program m) program m th number procs (all_before (numbered_stms m.body) []) ps (record { at = 0; slots = slots; stack = [] })
 begins_at program m th number procs ps slots z h =
     let xs = numbered_stms m.body in
     let c = body_code program m in inl (
       None,
-      names_of m,
-      subst (λ ts. SlotsHold th (names_of m) ps ts slots) (sym (no_turns xs)) h,
-      body_left c program (this_of m) (result_type m) (is_void (result_type m)) refl (names_of m) xs 0 z.ended z.stms (stands_behind c [] c 0 refl refl),
+      names_in_method m,
+      subst (λ ts. SlotsHold th (names_in_method m) ps ts slots) (sym (no_turns xs)) h,
+      body_left c program (this_of m) (result_type m) (is_void (result_type m)) refl (names_in_method m) xs 0 z.ended z.stms (stands_behind c [] c 0 refl refl),
       param_bare (parameters_of m.params) (this_names (this_of m)) (this_bare (this_of m)),
     )

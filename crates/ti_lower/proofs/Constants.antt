@@ -26,7 +26,7 @@ use Rattle.ti_code.specs.declared.instr.Instr.TheVariants as i
 use Rattle.ti_code.specs.declared.instr.Operation.{Operation}
 use Rattle.ti_code.specs.Forms.{IsFormedInstr, IsFormedMethod, AreFormedMethods}
 use Rattle.ti_lower_expr.specs.Slots.{Name, Hidden, Point, has_this}
-use Rattle.ti_lower_expr.specs.Methods.{names_of}
+use Rattle.ti_lower_expr.specs.Methods.{names_in_method}
 use Rattle.ti_lower_expr.specs.declared.kinds.OperandClass.{OperandClass}
 use Rattle.ti_lower_expr.specs.declared.kinds.OperandClass.TheVariants.{Numbers}
 use Rattle.ti_lower_expr.specs.declared.kinds.StaticRepr.{StaticRepr}
@@ -284,7 +284,7 @@ main_comes end x (inl e) = inl (main_simple end x e)
 main_comes end x (inr z) = inr (z.0, ap (in_main end) z.1 ∙ main_constant end (zero_declared z.0))
 
 body_comes : (program : ProgramView) (m : NumberedMethod) → AllCome (body_code program m)
-body_comes program m = both_come (stms_come program (this_of m) (result_type m) (numbered_stms m.body) None (names_of m) 0) (simple_come refl)
+body_comes program m = both_come (stms_come program (this_of m) (result_type m) (numbered_stms m.body) None (names_in_method m) 0) (simple_come refl)
 
 instrs_come : (end : Option Place) (is : List Instr) → All IsLowered is → All IsLowered (instrs_in end is)
 instrs_come None is f = f

@@ -18,7 +18,7 @@ use Rattle.ti_code.specs.declared.instr.Instr.{Instr}
 use Rattle.ti_code.specs.declared.instr.Instr.TheVariants as i
 use Rattle.ti_code.specs.Leading.{pc_after}
 use Rattle.ti_lower_expr.specs.Slots.{Name, Of, Point}
-use Rattle.ti_lower_expr.specs.Methods.{names_of}
+use Rattle.ti_lower_expr.specs.Methods.{names_in_method}
 use Rattle.ti_lower_expr.specs.Coding.{code_of}
 use Rattle.ti_lower_expr.proofs.Lemmas.{behind_both, length_behind}
 use Rattle.ti_lower.specs.StmtCode.{LoopTargets, unknown, names_after, break_code, continue_code, condition_code, loop_code, walk_code, stm_code, stms_code, maybe_code}
@@ -660,9 +660,9 @@ written_twice program m =
     let this = this_of m in
     let result = result_type m in
     let xs = numbered_stms m.body in
-    let w : CodeBuilder = record { names = names_of m; code = []; targets = [] } in
-    let first = stms_drafts program this result [] xs None false w (names_of m) 0 refl refl refl in
+    let w : CodeBuilder = record { names = names_in_method m; code = []; targets = [] } in
+    let first = stms_drafts program this result [] xs None false w (names_in_method m) 0 refl refl refl in
     let known = (body_on program m []).targets in
-    let second = stms_drafts program this result known xs None false w (names_of m) 0 refl refl refl in
+    let second = stms_drafts program this result known xs None false w (names_in_method m) 0 refl refl refl in
     ap (λ z. z ++ i.Return ∷ [])
     (second.code_is (subst (λ z. Known program this result known 0 z) first.targets_are (known_from program this result known [] known refl)))

@@ -7,7 +7,7 @@ use Rattle.ti_lang.specs.Program.Expressions as e
 use Rattle.ti_lang.specs.declared.program.classes.Param.{Param}
 use Rattle.ti_lang.specs.Program.Classes.{ProgramView}
 use Rattle.ti_lang.specs.Program.Views.{numbered_param_of}
-use Rattle.ti_lang.specs.Typing.Kinds.{is_point}
+use Rattle.ti_lang.specs.Typing.Kinds.{is_point_type}
 use Rattle.ti_lang.specs.Typing.Called.{member_called}
 use Rattle.ti_lang.specs.Typing.TextTypes.{syntactic_type, how_many}
 use Rattle.ti_lang.specs.Meaning.Calls.{parameters_from}
@@ -18,11 +18,11 @@ use Rattle.ti_base.specs.declared.place.Place.{Place}
 use Rattle.ti_code.specs.Leading.{pc_after}
 use Rattle.ti_lower_expr.specs.declared.slots.SlotName.{SlotName}
 use Rattle.ti_lower_expr.specs.declared.slots.SlotName.TheVariants as slot
-use Rattle.ti_lower_expr.specs.Views.{slot_name_of, names_of}
+use Rattle.ti_lower_expr.specs.Views.{slot_name_of, slot_names_of}
 use Rattle.ti_lower_expr.specs.Slots.{Name, This, Of, Point, Hidden, is_meant, find_by, find_slot, has_this}
 use Rattle.ti_lower_expr.specs.declared.kinds.ShortCircuit.{ShortCircuit}
 use Rattle.ti_lower_expr.specs.declared.kinds.ShortCircuit.TheVariants.{Never, Where}
-use Rattle.ti_lower_expr.specs.Coding.{load_variable, operator_code, short_circuit, operation_in, lazy_code, member_code, index_code, code_of, code_of_all, code_of_range, code_of_ranges}
+use Rattle.ti_lower_expr.specs.Coding.{load_variable, operator_code, short_circuit_of, operation_in, lazy_code, member_code, index_code, code_of, code_of_all, code_of_range, code_of_ranges}
 use Rattle.ti_lower.specs.Receivers.{written_slot}
 use Rattle.ti_lower.specs.Mirrors.Positions.{with_temporaries}
 
@@ -78,8 +78,8 @@ foreach_absent number (slot.Of k single ty ∷ xs) =
 foreach_absent number (slot.Point k ∷ xs) = foreach_absent number xs
 foreach_absent number (slot.Hidden ∷ xs) = foreach_absent number xs
 
-pub written_foreach : (w number : ℕ) (xs : List SlotName) → written_slot (record { number = number; declared = Foreach }) (with_temporaries w (names_of xs)) ≡ None
-written_foreach w number xs = found_hidden w (Typed false t.Void) (record { number = number; declared = Foreach }) (names_of xs) ∙ foreach_absent number (reverse xs)
+pub written_foreach : (w number : ℕ) (xs : List SlotName) → written_slot (record { number = number; declared = Foreach }) (with_temporaries w (slot_names_of xs)) ≡ None
+written_foreach w number xs = found_hidden w (Typed false t.Void) (record { number = number; declared = Foreach }) (slot_names_of xs) ∙ foreach_absent number (reverse xs)
 
 -- ---- expressions
 
@@ -108,9 +108,9 @@ module _ (program : ProgramView) (this : Option ℕ) (names : List Name) where
     same (e.Rect p ranges) at = front_same _ _ _ (ranges_same ranges at)
     same (e.Unary p op x) at = front_same _ _ _ (same x at)
     same (e.Binary p op x y) at =
-        both_same at (one x at) (none x at) (λ j. operator_code (short_circuit op) (operation_in program this op x y) p j (one y))
-        (λ j. operator_code (short_circuit op) (operation_in program this op x y) p j (none y)) (same x at)
-        (λ j. operators_same (short_circuit op) (operation_in program this op x y) p j (one y) (none y) (λ n. same y n))
+        both_same at (one x at) (none x at) (λ j. operator_code (short_circuit_of op) (operation_in program this op x y) p j (one y))
+        (λ j. operator_code (short_circuit_of op) (operation_in program this op x y) p j (none y)) (same x at)
+        (λ j. operators_same (short_circuit_of op) (operation_in program this op x y) p j (one y) (none y) (λ n. same y n))
     same (e.Cast p type x) at = front_same _ _ _ (same x at)
     same (e.Select p x name) at = front_same _ _ _ (same x at)
     same (e.Member p x name args) at =
@@ -118,7 +118,7 @@ module _ (program : ProgramView) (this : Option ℕ) (names : List Name) where
         both_same at (one x at) (none x at) (λ j. code_of_all program this (Hidden ∷ names) args j ++ last) (λ j. code_of_all program this names args j ++ last) (same x at)
         (λ j. front_same (code_of_all program this (Hidden ∷ names) args j) (code_of_all program this names args j) last (all_same args j))
     same (e.Index p x parts) at =
-        let last = index_code (is_point (syntactic_type program this x)) (how_many parts) p in
+        let last = index_code (is_point_type (syntactic_type program this x)) (how_many parts) p in
         both_same at (one x at) (none x at) (λ j. code_of_all program this (Hidden ∷ names) parts j ++ last) (λ j. code_of_all program this names parts j ++ last) (same x at)
         (λ j. front_same (code_of_all program this (Hidden ∷ names) parts j) (code_of_all program this names parts j) last (all_same parts j))
     same _ at = refl

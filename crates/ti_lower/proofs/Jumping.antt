@@ -26,7 +26,7 @@ use Rattle.ti_code.specs.declared.instr.Operation.{Operation}
 use Rattle.ti_code.specs.Leading.{pc_after}
 use Rattle.ti_code.specs.JumpRule.{jump_target_of, takes_tick, no_jump_and, leads_to_tick, jump_fits, jumps_fit_from, jumps_fit, keep_jump_rule}
 use Rattle.ti_lower_expr.specs.Slots.{Name, Hidden, Point, has_this}
-use Rattle.ti_lower_expr.specs.Methods.{names_of}
+use Rattle.ti_lower_expr.specs.Methods.{names_in_method}
 use Rattle.ti_lower_expr.specs.declared.kinds.OperandClass.{OperandClass}
 use Rattle.ti_lower_expr.specs.declared.kinds.OperandClass.TheVariants.{Numbers}
 use Rattle.ti_lower_expr.specs.declared.kinds.StaticRepr.{StaticRepr}
@@ -422,7 +422,7 @@ module _ (end : Place) where
 body_fits : (program : ProgramView) (m : NumberedMethod) → IsTrue (jumps_fit_from (body_code program m) 0 (body_code program m))
 body_fits program m =
     let all = body_code program m in
-    let fit : Fits all 0 all = fits_both (stms_fit program (this_of m) (result_type m) (numbered_stms m.body) None (names_of m) 0 tt) (fits_jumpless refl) in
+    let fit : Fits all 0 all = fits_both (stms_fit program (this_of m) (result_type m) (numbered_stms m.body) None (names_in_method m) 0 tt) (fits_jumpless refl) in
     fit.keeps (stands_behind all [] all 0 refl refl)
 
 method_fits : (program : ProgramView) (end : Option Place) (m : NumberedMethod) → IsTrue (jumps_fit (method_code program end m))

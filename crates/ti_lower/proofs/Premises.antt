@@ -7,7 +7,7 @@ use Rattle.ti_lang.specs.Program.Scope.{this_of}
 use Rattle.ti_lang.specs.Typing.Declared.{result_type}
 use Rattle.ti_lang.specs.Typing.Kinds.{is_void}
 use Rattle.ti_lang.specs.Meaning.Calls.{parameters_of}
-use Rattle.ti_lower_expr.specs.Methods.{names_of}
+use Rattle.ti_lower_expr.specs.Methods.{names_in_method}
 use Rattle.ti_lower.proofs.Working.{StmsFine}
 
 -- a return with a value
@@ -28,7 +28,7 @@ IsEnded false (Cons x xs) = EndOf x xs
 
 -- the statements of a method are fine where the slots have the names of its parameters, and a method with a result ends with a return
 pub record MethodFine (program : ProgramView) (m : NumberedMethod) : Type 0 where
-  pub stms : StmsFine program (this_of m) (result_type m) (numbered_stms m.body) (names_of m)
+  pub stms : StmsFine program (this_of m) (result_type m) (numbered_stms m.body) (names_in_method m)
   pub ended : IsEnded (is_void (result_type m)) (numbered_stms m.body)
 
 -- `main` is there, has no `this` and no parameters, and gives nothing back

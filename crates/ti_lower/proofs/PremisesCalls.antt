@@ -18,7 +18,7 @@ use Rattle.ti_lang.specs.Typing.Fits.{fits}
 use Rattle.ti_lang.specs.Typing.Declared.{instance_method, is_static_method, result_type, types_of}
 use Rattle.ti_lang.specs.Typing.Called.{called_method, method_behind}
 use Rattle.ti_lang.specs.Typing.TextTypes.{how_many, syntactic_type}
-use Rattle.ti_lang.specs.Typing.Expressions.{operand, all_fit, takes, called, member, member_given, type_result, operands, expr_type, operand_type}
+use Rattle.ti_lang.specs.Typing.Expressions.{operand, all_fit, takes, called, member_typing, member_given, type_result, operands, expr_type, operand_type}
 use Rattle.ti_lang.specs.Meaning.Calls.{call_of, call_by, parameters_from, parameters_of}
 use Rattle.ti_lang.proofs.Lemmas.{agrees, how_many_is, class_told}
 use Rattle.ti_rules.specs.Known.{IsThere}
@@ -177,7 +177,7 @@ module _ (p : ProgramView) (words : MainWords p) (s : ScopeContents) (result : V
           object_call at a name xs c (Some ts) type (λ us z. how_many_is p s xs us (j ∙ z)) (behind_class (syntactic_type p s.this_class a) c name (class_in_text x a number (t.Class c l) i)) h
       of u ts i j h = inl (ap (option_map (call_of at (Some a) xs)) (behind_other (syntactic_type p s.this_class a) name (class_in_text x a number u i)))
 
-      by : (o : Option ValueType) (q : Option (List ValueType)) → operand_type p s a ≡ o → operands p s xs ≡ q → (member p o name q).type ≡ Some type → CallOrNot (e.Member at a name xs) type
+      by : (o : Option ValueType) (q : Option (List ValueType)) → operand_type p s a ≡ o → operands p s xs ≡ q → (member_typing p o name q).type ≡ Some type → CallOrNot (e.Member at a name xs) type
       by None q i j h = absurd (none_some type h)
       by (Some u) None i j h = absurd (none_some type h)
       by (Some u) (Some ts) i j h = of u ts i j h

@@ -20,7 +20,7 @@ use Rattle.ti_rules.specs.ProgramRefusals.{IsChecked}
 use Rattle.ti_rules.proofs.Lemmas.{and_left, and_right, none_some}
 use Rattle.ti_lower_expr.specs.Slots.{Name, This, Of, Hidden}
 use Rattle.ti_lower_expr.specs.Slots as slot_of
-use Rattle.ti_lower_expr.specs.Methods.{names_of}
+use Rattle.ti_lower_expr.specs.Methods.{names_in_method}
 use Rattle.ti_lower.specs.Calling.{number_called}
 use Rattle.ti_lower.specs.StmtCode.{names_after}
 use Rattle.ti_lower.proofs.Arguments.{AreArgs, IsObject}
@@ -184,7 +184,7 @@ ended_prop false Nil = hlevel
 ended_prop false (Cons x xs) = end_prop x xs
 
 method_prop : (program : ProgramView) (m : NumberedMethod) → IsProp (MethodFine program m)
-method_prop program m = hlevel (stms_prop program (this_of m) (result_type m) (numbered_stms m.body) (names_of m), ended_prop (is_void (result_type m)) (numbered_stms m.body))
+method_prop program m = hlevel (stms_prop program (this_of m) (result_type m) (numbered_stms m.body) (names_in_method m), ended_prop (is_void (result_type m)) (numbered_stms m.body))
 
 -- ---- main
 

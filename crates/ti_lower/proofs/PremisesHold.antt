@@ -25,7 +25,7 @@ use Rattle.ti_rules.specs.ProgramRefusals.{BreaksNothing}
 use Rattle.ti_rules.proofs.Lemmas.{nil_left, nil_right, not_refused, and_left, and_right, none_some, some_same, TextFits, text_fits}
 use Rattle.ti_rules.proofs.Lemmas.{AllVariables, params_behind, body_fits}
 use Rattle.ti_lower_expr.specs.Slots.{Name, Of}
-use Rattle.ti_lower_expr.specs.Methods.{this_names, push_param_names, names_of}
+use Rattle.ti_lower_expr.specs.Methods.{this_names, push_param_names, names_in_method}
 use Rattle.ti_lower.proofs.Working.{StmFine, StmsFine}
 use Rattle.ti_lower.proofs.Premises.{IsReturn, EndOf, IsEnded, MethodFine, MainFine}
 use Rattle.ti_lower.proofs.PremisesSpelled.{AllBranched, MethodsBranched, spelled_branched}
@@ -110,10 +110,10 @@ method_fine p words text before own m k (number.method {result = result} {params
     let heads = head_refusals m ++ end_refusals m in
     let inner = flat_map (standing_refusals p) (standing_in_method p m) in
     let fine = stms_fine p words m (parameters params) None (body_site (method_site text own before) own.method.params)
-    (names_of m) fits
+    (names_in_method m) fits
     (body_below (scope_with (this_of m) params) (this_of m) (method_site text own before) own.method.params params ps tt refl) (stms own.method.body) (numbered_stms body) h b (nil_right heads inner e) in
     let ends = not_refused (not (is_void (result_type m)) && not (ends_with_return body)) Y6 m.place (nil_right (head_refusals m) (end_refusals m) (nil_left heads inner e)) in
-    record { stms = fine; ended = ended_fine p (this_of m) (result_type m) body (names_of m) ends fine }
+    record { stms = fine; ended = ended_fine p (this_of m) (result_type m) body (names_in_method m) ends fine }
 
 methods_fine : (p : ProgramView) (words : MainWords p) (text : TextTree) (n before : ℕ) (owns : List OwnMethod) (ms : List NumberedMethod) → TextFits p text → NumbersMethods text n before owns ms
     → MethodsBranched owns → flat_map (method_refusals p) ms ≡ [] → (k : ℕ) (m : NumberedMethod) → slice_get ms k ≡ Some m → MethodFine p m

@@ -20,7 +20,7 @@ use Rattle.ti_code.specs.Machine.{Machine, receiver_depth, first}
 use Rattle.ti_rules.specs.ProgramRefusals.{IsChecked}
 use Rattle.ti_code.specs.Follows.{Runs, here, Fit, HasNext, Follows}
 use Rattle.ti_lower_expr.specs.Slots.{SlotsHold, none}
-use Rattle.ti_lower_expr.specs.Methods.{receiver_in, receivers_of, this_names, push_param_names, names_of}
+use Rattle.ti_lower_expr.specs.Methods.{receiver_in, receivers_of, this_names, push_param_names, names_in_method}
 use Rattle.ti_lower.specs.Programs.{method_code, end_in, methods_code, program_code}
 use Rattle.ti_lower_expr.proofs.Lemmas.{same_number}
 use Rattle.ti_lower.proofs.Bodies.{begins_at}
@@ -113,7 +113,7 @@ module _ (program : ProgramView) (z : IsProgramFine program) (procs fuel number 
   starts : m0 ≡ machine code s number end m0 receivers_same bodies z.methods team_is outermost 0 origin
   starts = ap (λ o. record { procs = procs; fuel = fuel; number = number; spent = 0; frames = option_map_or (λ (m : MethodCode). record { instrs = m.instrs; state = origin } ∷ []) o [] }) main_code
 
-  no_names : SlotsHold None (names_of z.main_fine.main) [] [] []
+  no_names : SlotsHold None (names_in_method z.main_fine.main) [] [] []
   no_names = subst (λ ps. SlotsHold None (push_param_names ps (this_names (this_of z.main_fine.main))) [] [] []) (sym z.main_fine.is_bare)
       (subst (λ t. SlotsHold None (this_names t) [] [] []) (sym z.main_fine.is_static) (none refl))
 

@@ -9,7 +9,7 @@ use Rattle.ti_code.specs.declared.instr.Instr.{Instr}
 use Rattle.ti_code.specs.declared.instr.Instr.TheVariants as i
 use Rattle.ti_code.specs.declared.code.MethodCode.{MethodCode}
 use Rattle.ti_code.specs.Programs.{Code}
-use Rattle.ti_lower_expr.specs.Methods.{param_count, is_instance, names_of}
+use Rattle.ti_lower_expr.specs.Methods.{param_count, is_instance, names_in_method}
 use Rattle.ti_lower.specs.StmtCode.{stms_code}
 
 -- An instruction of `main`, in which a return ends the run.
@@ -19,7 +19,7 @@ in_main end x = x
 
 -- The code of a method, before returns become the end of the run.
 abbrev pub body_code : ProgramView → NumberedMethod → List Instr
-body_code program m = stms_code program (this_of m) (result_type m) (numbered_stms m.body) None (names_of m) 0 ++ i.Return ∷ []
+body_code program m = stms_code program (this_of m) (result_type m) (numbered_stms m.body) None (names_in_method m) 0 ++ i.Return ∷ []
 
 -- The instructions of a method: of `main`, if a place of the end is given, or of another one.
 abbrev pub instrs_in : Option Place → List Instr → List Instr

@@ -78,7 +78,7 @@ fn this_slots<'p>(alloc: Global, this: Option<u32>) -> Result<Slots<'p>, Memory>
 
 // The slots of a frame when it begins.
 fn first_slots<'p>(alloc: Global, method: &'p Method) -> Result<Slots<'p>, Memory>
-    ensures { IfOk result (λ slots. names_in slots ≡ frame.names_of (numbered_method_of method.now)) }
+    ensures { IfOk result (λ slots. names_in slots ≡ frame.names_in_method (numbered_method_of method.now)) }
 {
     let mut slots = this_slots(alloc, this_of(method))?;
     match &method.params {

@@ -16,7 +16,7 @@ use Rattle.ti_lang.specs.Program.Types as t
 use Rattle.ti_lang.specs.Program.Expressions.{NumberedExp, NumberedExps, NumberedRange, NumberedRanges}
 use Rattle.ti_lang.specs.Program.Expressions as e
 use Rattle.ti_lang.specs.Program.Classes.{ProgramView}
-use Rattle.ti_lang.specs.Typing.Kinds.{is_local, is_point}
+use Rattle.ti_lang.specs.Typing.Kinds.{is_local, is_point_type}
 use Rattle.ti_lang.specs.Typing.Called.{member_called}
 use Rattle.ti_lang.specs.Typing.TextTypes.{syntactic_type, how_many}
 use Rattle.ti_lang.specs.Meaning.Held.{Held, Plain, Dm, no_value, zero_of, zero_point}
@@ -34,7 +34,7 @@ use Rattle.ti_lower_expr.specs.declared.kinds.StaticRepr.TheVariants as known
 use Rattle.ti_lower_expr.specs.declared.kinds.ShortCircuit.{ShortCircuit}
 use Rattle.ti_lower_expr.specs.declared.kinds.ShortCircuit.TheVariants.{Never, Where}
 use Rattle.ti_lower_expr.specs.Knowing.{known_of}
-use Rattle.ti_lower_expr.specs.Coding.{constant, load_variable, load_this, conversion, local_test, unary_code, operation_in, short_circuit, jump_where, lazy_code, operator_code, pops, kind_code, shown_member, index_code, rect_instr, how_many_ranges, kind_of_ranges, code_of, code_of_all, code_of_range, code_of_ranges}
+use Rattle.ti_lower_expr.specs.Coding.{constant, load_variable, load_this, conversion, local_test, unary_code, operation_in, short_circuit_of, jump_where, lazy_code, operator_code, pops, kind_code, shown_member, index_code, rect_instr, how_many_ranges, kind_of_ranges, code_of, code_of_all, code_of_range, code_of_ranges}
 
 -- ---- constants
 
@@ -178,14 +178,14 @@ module _ (program : ProgramView) (this : Option ℕ) (names : List Name) where
         both_come (ranges_come ranges at) (then_come (rect_simple (kind_of_ranges program this ranges) (how_many_ranges ranges) p) (simple_come refl))
     code_comes (e.Unary p op x) at = both_come (code_comes x at) (alone_comes op)
     code_comes (e.Binary p op x y) at =
-        both_come (code_comes x at) (operator_comes (short_circuit op) (operation_in program this op x y) p _ (code_of program this names y) (code_comes y))
+        both_come (code_comes x at) (operator_comes (short_circuit_of op) (operation_in program this op x y) p _ (code_of program this names y) (code_comes y))
     code_comes (e.Cast p type x) at =
         both_come (code_comes x at) (both_come (conversion_comes p type.type (known_of program this x)) (local_comes p (is_local type.type)))
     code_comes (e.Select p x name) at = both_come (code_comes x at) (simple_come refl)
     code_comes (e.Member p x name args) at =
         both_come (code_comes x at) (both_come (all_come args _) (kind_comes (shown_member (member_called program this x name)) (how_many args) p))
     code_comes (e.Index p x parts) at =
-        both_come (code_comes x at) (both_come (all_come parts _) (index_comes (is_point (syntactic_type program this x)) (how_many parts) p))
+        both_come (code_comes x at) (both_come (all_come parts _) (index_comes (is_point_type (syntactic_type program this x)) (how_many parts) p))
     code_comes x at = simple_come refl
 
     pub all_come : (xs : NumberedExps) (at : ℕ) → AllCome (code_of_all program this names xs at)

@@ -15,7 +15,7 @@ use Rattle.ti_lang.specs.Program.Types as t
 use Rattle.ti_lang.specs.Program.Expressions.{NumberedExp, NumberedExps, NumberedRange, NumberedRanges}
 use Rattle.ti_lang.specs.Program.Expressions as e
 use Rattle.ti_lang.specs.Program.Scope.{this_of}
-use Rattle.ti_lang.specs.Typing.Kinds.{is_local, is_point}
+use Rattle.ti_lang.specs.Typing.Kinds.{is_local, is_point_type}
 use Rattle.ti_lang.specs.Typing.BuiltIn as b
 use Rattle.ti_lang.specs.Typing.Called.{member_called}
 use Rattle.ti_lang.specs.Typing.TextTypes.{how_many}
@@ -27,7 +27,7 @@ use Rattle.ti_lang.specs.Meaning.Conversions.{converted}
 use Rattle.ti_lang.specs.Meaning.Operators.{apply_binary, operated_alone}
 use Rattle.ti_lang.specs.Meaning.Scoping.{Env, zero_declared, type_of, field_selected}
 use Rattle.ti_lang.specs.Meaning.CellRefs.{Field, Element, fetched, coordinate, indexed}
-use Rattle.ti_lang.specs.Meaning.MemberForms.{member}
+use Rattle.ti_lang.specs.Meaning.MemberForms.{member_value}
 use Rattle.ti_lang.specs.Meaning.Evaluation.{eval, eval_all, eval_numbers, eval_range, eval_ranges, is_own, kept_local, unless_settled, with_right}
 use Rattle.ti_code.specs.declared.instr.Instr.{Instr}
 use Rattle.ti_code.specs.declared.instr.Instr.TheVariants as i
@@ -45,7 +45,7 @@ use Rattle.ti_lower_expr.specs.declared.kinds.StaticRepr.TheVariants as known
 use Rattle.ti_lower_expr.specs.declared.kinds.ShortCircuit.{ShortCircuit}
 use Rattle.ti_lower_expr.specs.declared.kinds.ShortCircuit.TheVariants.{Never, Where}
 use Rattle.ti_lower_expr.specs.Coding.{operation, operation_in, kind_of_ranges, how_many_ranges, rect_instr, local_test, unary_code}
-use Rattle.ti_lower_expr.specs.Coding.{code_of, code_of_all, code_of_range, code_of_ranges, short_circuit, operator_code, jump_where, constant}
+use Rattle.ti_lower_expr.specs.Coding.{code_of, code_of_all, code_of_range, code_of_ranges, short_circuit_of, operator_code, jump_where, constant}
 use Rattle.ti_lower_expr.specs.Coding.{load_variable, load_this, into_int, into_long, into_object, into_grid, conversion, kind_code, pops, member_code}
 use Rattle.ti_lower_expr.specs.Coding.{index_code}
 use Rattle.ti_lower_expr.specs.Knowing.{HasRepr, known_of}
@@ -299,30 +299,30 @@ module _ (c : List Instr) (env : Env) (names : List Name) (slots : List Held) (h
 
   -- a member with its operands
   pub member_alike : (p : Place) (a x y : ValueType) (m : b.BuiltIn) (h : Held) (hs : List Held) (rs : List Answer)
-      → Alike who c (member p a (Some m) x h hs rs) (member p t.Void (Some m) y h hs rs)
+      → Alike who c (member_value p a (Some m) x h hs rs) (member_value p t.Void (Some m) y h hs rs)
   member_alike p a x y b.Domain h hs rs = needed_alike p x y h _ _ (λ id ms. asked_alike _ _ refl refl ms) rs
   member_alike p a x y b.Restrict h hs rs = needed_alike p x y h _ _ (λ id ms. asked_alike _ _ refl refl ms) rs
   member_alike p a x y b.Translate h hs rs = needed_alike p x y h _ _ (λ id ms. asked_alike _ _ refl refl ms) rs
   member_alike p a x y b.Slice h hs rs = needed_alike p x y h _ _ (λ id ms. asked_alike _ _ refl refl ms) rs
-  member_alike p a x y b.Size h hs rs = alike_itself who c (member p a (Some b.Size) x h hs rs)
-  member_alike p a x y b.Min h hs rs = alike_itself who c (member p a (Some b.Min) x h hs rs)
-  member_alike p a x y b.Max h hs rs = alike_itself who c (member p a (Some b.Max) x h hs rs)
-  member_alike p a x y b.Contains h hs rs = alike_itself who c (member p a (Some b.Contains) x h hs rs)
-  member_alike p a x y b.Copy h hs rs = alike_itself who c (member p a (Some b.Copy) x h hs rs)
-  member_alike p a x y b.Exchange h hs rs = alike_itself who c (member p a (Some b.Exchange) x h hs rs)
-  member_alike p a x y b.Delete h hs rs = alike_itself who c (member p a (Some b.Delete) x h hs rs)
+  member_alike p a x y b.Size h hs rs = alike_itself who c (member_value p a (Some b.Size) x h hs rs)
+  member_alike p a x y b.Min h hs rs = alike_itself who c (member_value p a (Some b.Min) x h hs rs)
+  member_alike p a x y b.Max h hs rs = alike_itself who c (member_value p a (Some b.Max) x h hs rs)
+  member_alike p a x y b.Contains h hs rs = alike_itself who c (member_value p a (Some b.Contains) x h hs rs)
+  member_alike p a x y b.Copy h hs rs = alike_itself who c (member_value p a (Some b.Copy) x h hs rs)
+  member_alike p a x y b.Exchange h hs rs = alike_itself who c (member_value p a (Some b.Exchange) x h hs rs)
+  member_alike p a x y b.Delete h hs rs = alike_itself who c (member_value p a (Some b.Delete) x h hs rs)
 
   kind_does : (k : Member) (p : Place) (type through : ValueType) (n : ℕ) (h : Held) (hs : List Held) (at : ℕ) (stack : List Held) → length hs ≡ n → CodeAt c at (i.Member k n p ∷ [])
-      → Implements who c (state at (pushed hs (h ∷ stack))) (member p type (Some (built_in_member k)) through h hs) (Pushes (at + 1) stack)
+      → Implements who c (state at (pushed hs (h ∷ stack))) (member_value p type (Some (built_in_member k)) through h hs) (Pushes (at + 1) stack)
   kind_does k p type through n h hs at stack z st =
-      does_one who c (Pushes (at + 1) stack) (state at (pushed hs (h ∷ stack))) (member p type (Some (built_in_member k)) through h hs) (member p t.Void (Some (built_in_member k)) t.Void h hs)
+      does_one who c (Pushes (at + 1) stack) (state at (pushed hs (h ∷ stack))) (member_value p type (Some (built_in_member k)) through h hs) (member_value p t.Void (Some (built_in_member k)) t.Void h hs)
       (λ x. state (at + 1) (x ∷ stack)) (i.Member k n p) st.0 (member_alike p type through t.Void (built_in_member k) h hs)
-      (λ rs. ap₂ (λ xs ys. bind_result (member p t.Void (Some (built_in_member k)) t.Void (top ys) xs rs)
+      (λ rs. ap₂ (λ xs ys. bind_result (member_value p t.Void (Some (built_in_member k)) t.Void (top ys) xs rs)
       (λ x. gives (state (at + 1) (x ∷ below ys)))) (taken_all n hs (h ∷ stack) z) (under_all n hs (h ∷ stack) z))
       (λ x. refl)
 
   member_does : (o : Option b.BuiltIn) (p : Place) (type through : ValueType) (n : ℕ) (h : Held) (hs : List Held) (at : ℕ) (stack : List Held) → length hs ≡ n → CodeAt c at (member_code o n p)
-      → Implements who c (state at (pushed hs (h ∷ stack))) (member p type o through h hs) (Pushes (pc_after at (member_code o n p)) stack)
+      → Implements who c (state at (pushed hs (h ∷ stack))) (member_value p type o through h hs) (Pushes (pc_after at (member_code o n p)) stack)
   member_does None p type through n h hs at stack z st = nothing_does p n h hs at stack z st
   member_does (Some b.Size) p type through n h hs at stack z st = kind_does kind.Size p type through n h hs at stack z st
   member_does (Some b.Min) p type through n h hs at stack z st = kind_does kind.Min p type through n h hs at stack z st
@@ -340,7 +340,7 @@ module _ (c : List Instr) (env : Env) (names : List Name) (slots : List Held) (h
 
   -- an operator behind its left operand, where this decides
   settles : (left : Bool) (o : BinaryOperator) (name : Operation) (p : Place) (h : Held) (y : Comp Held) (right : ℕ → List Instr) (at : ℕ)
-      (stack : List Held) → short_circuit o ≡ Where left → truth_of h ≡ left
+      (stack : List Held) → short_circuit_of o ≡ Where left → truth_of h ≡ left
       → CodeAt c at (operator_code (Where left) name p at right) → Implements who c (state at (h ∷ stack)) (with_right p o h y) (Pushes (pc_after at (operator_code (Where left) name p at right)) stack)
   settles left o name p h y right at stack z x st =
       let code = right (at + 1) in
@@ -355,7 +355,7 @@ module _ (c : List Instr) (env : Env) (names : List Name) (slots : List Held) (h
 
   -- where it doesn't
   goes_on : (left : Bool) (o : BinaryOperator) (name : Operation) (p : Place) (h : Held) (y : Comp Held) (right : ℕ → List Instr) (at : ℕ)
-      (stack : List Held) → short_circuit o ≡ Where left → truth_of h ≡ not left
+      (stack : List Held) → short_circuit_of o ≡ Where left → truth_of h ≡ not left
       → ((from : ℕ) (under : List Held) → CodeAt c from (right from) → Implements who c (state from under) y (Pushes (pc_after from (right from)) under))
       → CodeAt c at (operator_code (Where left) name p at right) → Implements who c (state at (h ∷ stack)) (with_right p o h y) (Pushes (pc_after at (operator_code (Where left) name p at right)) stack)
   goes_on left o name p h y right at stack z x d st =
@@ -380,7 +380,7 @@ module _ (c : List Instr) (env : Env) (names : List Name) (slots : List Held) (h
 
   -- an operator behind its left operand, given what its right operand's code does wherever it stands
   operator_does : (l : ShortCircuit) (o : BinaryOperator) (name : Operation) (p : Place) (h : Held) (y : Comp Held) (right : ℕ → List Instr)
-      (at : ℕ) (stack : List Held) → short_circuit o ≡ l → binary_operator_of name ≡ o
+      (at : ℕ) (stack : List Held) → short_circuit_of o ≡ l → binary_operator_of name ≡ o
       → ((from : ℕ) (under : List Held) → CodeAt c from (right from) → Implements who c (state from under) y (Pushes (pc_after from (right from)) under))
       → CodeAt c at (operator_code l name p at right) → Implements who c (state at (h ∷ stack)) (with_right p o h y) (Pushes (pc_after at (operator_code l name p at right)) stack)
   operator_does Never o name p h y right at stack z w d st =
@@ -483,11 +483,11 @@ module _ (c : List Instr) (env : Env) (names : List Name) (slots : List Held) (h
     does (e.Binary p op x y) at stack st =
         let xs = code x at in
         let name = operation_in env.program (this_of env.method) op x y in
-        let rest = operator_code (short_circuit op) name p (pc_after at xs) (code y) in
+        let rest = operator_code (short_circuit_of op) name p (pc_after at xs) (code y) in
         moved (pc_after (pc_after at xs) rest) (pc_after at (xs ++ rest)) stack _ (eval env (e.Binary p op x y)) (sym (behind_both at xs rest))
         (next (Pushes (pc_after (pc_after at xs) rest) stack) (pc_after at xs) stack (state at stack) (eval env x) (λ h. with_right p op h (eval env y))
         (does x at stack (front_stands c at xs _ st))
-        (λ h. operator_does (short_circuit op) op name p h (eval env y) (code y) (pc_after at xs) stack refl (operation_means op _ _) (λ from under k. does y from under k)
+        (λ h. operator_does (short_circuit_of op) op name p h (eval env y) (code y) (pc_after at xs) stack refl (operation_means op _ _) (λ from under k. does y from under k)
         (rest_stands c at xs rest st)))
     does (e.Cast p type x) at stack st =
         let xs = code x at in
@@ -518,17 +518,17 @@ module _ (c : List Instr) (env : Env) (names : List Name) (slots : List Held) (h
         let mid = pc_after (pc_after at xs) ys in
         moved (pc_after mid zs) (pc_after at (xs ++ (ys ++ zs))) stack _ (eval env (e.Member p x name args)) (sym (behind_both at xs (ys ++ zs) ∙ behind_both (pc_after at xs) ys zs))
         (next (Pushes (pc_after mid zs) stack) (pc_after at xs) stack (state at stack) (eval env x)
-        (λ h rs. bind_result (eval_all env args rs) (λ hs. member p (type_of env (e.Member p x name args)) m (type_of env x) h hs))
+        (λ h rs. bind_result (eval_all env args rs) (λ hs. member_value p (type_of env (e.Member p x name args)) m (type_of env x) h hs))
         (does x at stack (front_stands c at xs _ st))
         (λ h. does_then who c (PushesAll mid (h ∷ stack) (how_many args)) (Pushes (pc_after mid zs) stack) (state (pc_after at xs) (h ∷ stack)) (eval_all env args)
-        (λ hs. member p (type_of env (e.Member p x name args)) m (type_of env x) h hs)
+        (λ hs. member_value p (type_of env (e.Member p x name args)) m (type_of env x) h hs)
         (all_do args (pc_after at xs) (h ∷ stack) (front_stands c (pc_after at xs) ys _ (rest_stands c at xs _ st)))
         (λ hs s k. from_spot (Pushes (pc_after mid zs) stack) s _ _ k.1
         (member_does m p (type_of env (e.Member p x name args)) (type_of env x) (how_many args) h hs mid stack k.0 (rest_stands c (pc_after at xs) ys zs (rest_stands c at xs _ st))))))
     does (e.Index p x parts) at stack st =
         let xs = code x at in
         let ys = code_all parts (pc_after at xs) in
-        let is_pt = is_point (type_of env x) in
+        let is_pt = is_point_type (type_of env x) in
         let zs = index_code is_pt (how_many parts) p in
         let mid = pc_after (pc_after at xs) ys in
         let through = type_of env x in

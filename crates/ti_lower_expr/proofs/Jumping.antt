@@ -11,7 +11,7 @@ use Rattle.ti_lang.specs.Program.Types as t
 use Rattle.ti_lang.specs.Program.Expressions.{NumberedExp, NumberedExps, NumberedRange, NumberedRanges}
 use Rattle.ti_lang.specs.Program.Expressions as e
 use Rattle.ti_lang.specs.Program.Classes.{ProgramView}
-use Rattle.ti_lang.specs.Typing.Kinds.{is_local, is_point}
+use Rattle.ti_lang.specs.Typing.Kinds.{is_local, is_point_type}
 use Rattle.ti_lang.specs.Typing.Called.{member_called}
 use Rattle.ti_lang.specs.Typing.TextTypes.{syntactic_type, how_many}
 use Rattle.ti_lang.specs.Meaning.Held.{Held, Plain, Dm}
@@ -29,7 +29,7 @@ use Rattle.ti_lower_expr.specs.declared.kinds.StaticRepr.TheVariants as known
 use Rattle.ti_lower_expr.specs.declared.kinds.ShortCircuit.{ShortCircuit}
 use Rattle.ti_lower_expr.specs.declared.kinds.ShortCircuit.TheVariants.{Never, Where}
 use Rattle.ti_lower_expr.specs.Knowing.{known_of}
-use Rattle.ti_lower_expr.specs.Coding.{constant, load_variable, load_this, conversion, local_test, unary_code, operation_in, short_circuit, jump_where, lazy_code, operator_code, pops, kind_code, shown_member, index_code, rect_instr, how_many_ranges, kind_of_ranges, code_of, code_of_all, code_of_range, code_of_ranges}
+use Rattle.ti_lower_expr.specs.Coding.{constant, load_variable, load_this, conversion, local_test, unary_code, operation_in, short_circuit_of, jump_where, lazy_code, operator_code, pops, kind_code, shown_member, index_code, rect_instr, how_many_ranges, kind_of_ranges, code_of, code_of_all, code_of_range, code_of_ranges}
 use Rattle.ti_lower_expr.proofs.Doing.{front_stands, rest_stands}
 
 -- ---- code without jumps
@@ -206,14 +206,14 @@ module _ {all : List Instr} where
           fits_both (ranges_fit ranges at) (fits_next (rect_stays (kind_of_ranges program this ranges) (how_many_ranges ranges) p) (fits_jumpless refl))
       code_fits (e.Unary p op x) at = fits_both (code_fits x at) (alone_fits op)
       code_fits (e.Binary p op x y) at =
-          fits_both (code_fits x at) (operator_fits (short_circuit op) (operation_in program this op x y) p _ (code_of program this names y) (code_fits y))
+          fits_both (code_fits x at) (operator_fits (short_circuit_of op) (operation_in program this op x y) p _ (code_of program this names y) (code_fits y))
       code_fits (e.Cast p type x) at =
           fits_both (code_fits x at) (fits_both (conversion_fits p type.type (known_of program this x)) (local_fits p (is_local type.type)))
       code_fits (e.Select p x name) at = fits_both (code_fits x at) (fits_jumpless refl)
       code_fits (e.Member p x name args) at =
           fits_both (code_fits x at) (fits_both (all_fit args _) (kind_fits (shown_member (member_called program this x name)) (how_many args) p))
       code_fits (e.Index p x parts) at =
-          fits_both (code_fits x at) (fits_both (all_fit parts _) (index_fits (is_point (syntactic_type program this x)) (how_many parts) p))
+          fits_both (code_fits x at) (fits_both (all_fit parts _) (index_fits (is_point_type (syntactic_type program this x)) (how_many parts) p))
       code_fits x at = fits_jumpless refl
 
       pub all_fit : (xs : NumberedExps) (at : ℕ) → Fits all at (code_of_all program this names xs at)

@@ -20,14 +20,14 @@ use Rattle.ti_lang.specs.Program.Expressions.{NumberedExp}
 use Rattle.ti_lang.specs.Program.Expressions as e
 use Rattle.ti_lang.specs.Program.Scope.{this_of}
 use Rattle.ti_lang.specs.Typing.BuiltIn as b
-use Rattle.ti_lang.specs.Typing.Kinds.{same_truth, same_type, is_point}
+use Rattle.ti_lang.specs.Typing.Kinds.{same_truth, same_type, is_point_type}
 use Rattle.ti_lang.specs.Typing.Called.{member_called}
 use Rattle.ti_lang.specs.Typing.TextTypes.{used_type}
 use Rattle.ti_lang.specs.Meaning.Comp.{CompResult, Gives, Asks, Fails, Comp, ◌>>=◌, bind_result, gives, guard, found_or}
 use Rattle.ti_lang.specs.Meaning.Held.{Held, Plain, Dm, no_value, as_type, zero_of}
 use Rattle.ti_lang.specs.Meaning.Conversions.{converted, to_domain, of_domains}
 use Rattle.ti_lang.specs.Meaning.Evaluation.{eval, eval_all, eval_numbers, kept_local, with_right}
-use Rattle.ti_lang.specs.Meaning.MemberForms.{member, domain_size}
+use Rattle.ti_lang.specs.Meaning.MemberForms.{member_value, domain_size}
 use Rattle.ti_lang.specs.Meaning.Operands.{Operands, Wholes, Points, Rects, Domains, Others, plain_operands, operands, number}
 use Rattle.ti_lang.specs.Meaning.Operators.{add_values, subtract_values, multiply_values, divide_values, bitwise_values, shift_value, apply_binary, apply_signed, operated_alone}
 use Rattle.ti_lang.specs.Meaning.CellRefs.{indexed}
@@ -377,9 +377,9 @@ sized_known p (Plain (v.Rc r)) = comes_guarded (HasRepr known.Int) _ _ p _ refl
 sized_known p (Plain x) = λ rs. refl
 sized_known p (Dm dim points) = λ rs. refl
 
-member_is_known : (o : Option b.BuiltIn) (p : Place) (type through : ValueType) (h : Held) (hs : List Held) → Comes (HasRepr (member_known o)) (member p type o through h hs)
+member_is_known : (o : Option b.BuiltIn) (p : Place) (type through : ValueType) (h : Held) (hs : List Held) → Comes (HasRepr (member_known o)) (member_value p type o through h hs)
 member_is_known (Some b.Size) p type through h hs = sized_known p h
-member_is_known o p type through h hs = untold (member p type o through h hs)
+member_is_known o p type through h hs = untold (member_value p type o through h hs)
 
 found_or_known : (o : Option ℤ) (kind : FaultKind) (p : Place) → Comes (HasRepr known.Int) (found_or kind p o >>= λ x. gives (Plain (v.Int x)))
 found_or_known (Some x) kind p rs = refl
@@ -420,10 +420,10 @@ module _ (env : Env) (names : List Name) (slots : List Held) (holds : SlotsHold 
       let m = member_called env.program (this_of env.method) x name in
       let type = type_of env (e.Member p x name args) in
       let through = type_of env x in
-      comes_behind (HasRepr (member_known m)) (eval env x) (λ h. eval_all env args >>= λ hs. member p type m through h hs)
-      (λ h. comes_behind (HasRepr (member_known m)) (eval_all env args) (λ hs. member p type m through h hs) (λ hs. member_is_known m p type through h hs))
+      comes_behind (HasRepr (member_known m)) (eval env x) (λ h. eval_all env args >>= λ hs. member_value p type m through h hs)
+      (λ h. comes_behind (HasRepr (member_known m)) (eval_all env args) (λ hs. member_value p type m through h hs) (λ hs. member_is_known m p type through h hs))
   known_is_so (e.Index p x parts) =
-      let is_pt = is_point (type_of env x) in
+      let is_pt = is_point_type (type_of env x) in
       let type = type_of env (e.Index p x parts) in
       let through = type_of env x in
       comes_behind (HasRepr (index_known is_pt)) (eval env x) (λ h. eval_numbers env parts >>= λ ns. indexed is_pt p type through h ns)

@@ -9,7 +9,7 @@ use Rattle.ti_lang.specs.Meaning.Comp.{Gives, gives}
 use Rattle.ti_lang.specs.Meaning.Operators.{apply_binary, short_circuit as evaluate_left}
 use Rattle.ti_code.specs.Effects.{LocalState, Who, effect, top, below, jump_to, continue_with}
 use Rattle.ti_lower_expr.specs.declared.kinds.ShortCircuit.TheVariants.{Never, Where}
-use Rattle.ti_lower_expr.specs.Coding.{short_circuit, jump_where}
+use Rattle.ti_lower_expr.specs.Coding.{short_circuit_of, jump_where}
 
 where_not : (b : Bool) → Never ≡ Where b → ⊥
 where_not b e = cc
@@ -21,13 +21,13 @@ never_where : (b : Bool) → Where b ≡ Never → ⊥
 never_where b e = cc
 
 -- the left operand says nothing alone
-pub never_settled : (o : BinaryOperator) (h : Held) → short_circuit o ≡ Never → evaluate_left o h ≡ None
+pub never_settled : (o : BinaryOperator) (h : Held) → short_circuit_of o ≡ Never → evaluate_left o h ≡ None
 never_settled op.OrElse h e = absurd (never_where true e)
 never_settled op.AndThen h e = absurd (never_where false e)
 never_settled o h e = refl
 
 -- the left operand decides
-pub lazily_settled : (o : BinaryOperator) (b : Bool) (h : Held) → short_circuit o ≡ Where b → truth_of h ≡ b → evaluate_left o h ≡ Some (truth b)
+pub lazily_settled : (o : BinaryOperator) (b : Bool) (h : Held) → short_circuit_of o ≡ Where b → truth_of h ≡ b → evaluate_left o h ≡ Some (truth b)
 lazily_settled op.OrElse b h e x =
     ap (λ z. if z then Some (truth true) else None) (x ∙ sym (where_same true b e)) ∙ ap (λ z. Some (truth z)) (where_same true b e)
 lazily_settled op.AndThen b h e x =
@@ -35,12 +35,12 @@ lazily_settled op.AndThen b h e x =
 lazily_settled o b h e x = absurd (where_not b e)
 
 -- it doesn't
-pub lazily_open : (o : BinaryOperator) (b : Bool) (h : Held) → short_circuit o ≡ Where b → truth_of h ≡ not b → evaluate_left o h ≡ None
+pub lazily_open : (o : BinaryOperator) (b : Bool) (h : Held) → short_circuit_of o ≡ Where b → truth_of h ≡ not b → evaluate_left o h ≡ None
 lazily_open op.OrElse b h e x = ap (λ z. if z then Some (truth true) else None) (x ∙ ap not (sym (where_same true b e)))
 lazily_open op.AndThen b h e x = ap (λ z. if z then None else Some (truth false)) (x ∙ ap not (sym (where_same false b e)))
 lazily_open o b h e x = absurd (where_not b e)
 
-pub lazily_right : (o : BinaryOperator) (b : Bool) (at : Place) (h y : Held) (rs : List Answer) → short_circuit o ≡ Where b → apply_binary at o h y rs ≡ gives y rs
+pub lazily_right : (o : BinaryOperator) (b : Bool) (at : Place) (h y : Held) (rs : List Answer) → short_circuit_of o ≡ Where b → apply_binary at o h y rs ≡ gives y rs
 lazily_right op.OrElse b at h y rs e = refl
 lazily_right op.AndThen b at h y rs e = refl
 lazily_right o b at h y rs e = absurd (where_not b e)

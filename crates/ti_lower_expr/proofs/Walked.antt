@@ -7,7 +7,7 @@ use Rattle.ti_base.specs.declared.value.Value.TheVariants as v
 use Rattle.ti_lang.specs.Program.Expressions.{NumberedExp, NumberedExps, NumberedRange, NumberedRanges}
 use Rattle.ti_lang.specs.Program.Expressions as e
 use Rattle.ti_lang.specs.Program.Classes.{ProgramView}
-use Rattle.ti_lang.specs.Typing.Kinds.{is_local, is_point, class_of_type}
+use Rattle.ti_lang.specs.Typing.Kinds.{is_local, is_point_type, class_of_type}
 use Rattle.ti_lang.specs.Typing.Declared.{field_numbered}
 use Rattle.ti_lang.specs.Typing.Called.{member_called}
 use Rattle.ti_lang.specs.Typing.TextTypes.{syntactic_type, how_many}
@@ -19,7 +19,7 @@ use Rattle.ti_lower_expr.specs.Slots.{Name, has_this}
 use Rattle.ti_lower_expr.specs.declared.kinds.ShortCircuit.{ShortCircuit}
 use Rattle.ti_lower_expr.specs.declared.kinds.ShortCircuit.TheVariants.{Never, Where}
 use Rattle.ti_lower_expr.specs.Knowing.{known_of}
-use Rattle.ti_lower_expr.specs.Coding.{jump_where, operator_code, short_circuit, operation_in, unary_code, conversion, local_test, load_this, rect_instr, kind_of_ranges, how_many_ranges, member_code, index_code, code_of, code_of_all, code_of_range, code_of_ranges}
+use Rattle.ti_lower_expr.specs.Coding.{jump_where, operator_code, short_circuit_of, operation_in, unary_code, conversion, local_test, load_this, rect_instr, kind_of_ranges, how_many_ranges, member_code, index_code, code_of, code_of_all, code_of_range, code_of_ranges}
 use Rattle.ti_lower_expr.specs.Mirrors.Walking.{around, append_expr, append_operator, append_exprs, append_range, append_ranges}
 
 pub behind_counts : (at : ℕ) (xs : List Instr) → pc_after at xs ≡ at + length xs
@@ -76,8 +76,8 @@ module _ (program : ProgramView) (this : Option ℕ) (names : List Name) where
         (λ j. rect_instr (kind_of_ranges program this ranges) (how_many_ranges ranges) p ∷ []) (ranges_is ranges code)
     walked_is (e.Unary p op x) code = two code (on x code) (of x (length code)) (λ j. unary_code op) (walked_is x code)
     walked_is (e.Binary p op x y) code =
-        further code (on x code) (on (e.Binary p op x y) code) (of x (length code)) (λ j. operator_code (short_circuit op) (operation_in program this op x y) p j (of y)) (walked_is x code)
-        (operated_is (short_circuit op) (operation_in program this op x y) p (on y) (of y) (on x code) (λ n. walked_is y n))
+        further code (on x code) (on (e.Binary p op x y) code) (of x (length code)) (λ j. operator_code (short_circuit_of op) (operation_in program this op x y) p j (of y)) (walked_is x code)
+        (operated_is (short_circuit_of op) (operation_in program this op x y) p (on y) (of y) (on x code) (λ n. walked_is y n))
     walked_is (e.Cast p type x) code =
         append_assoc (on x code) (conversion p type.type (known_of program this x)) (local_test p (is_local type.type))
         ∙ two code (on x code) (of x (length code)) (λ j. conversion p type.type (known_of program this x) ++ local_test p (is_local type.type)) (walked_is x code)
@@ -91,9 +91,9 @@ module _ (program : ProgramView) (this : Option ℕ) (names : List Name) where
         (λ j. member_code (member_called program this x name) (how_many args) p) (all_is args (on x code)))
     walked_is (e.Index p x parts) code =
         further code (on x code) (on (e.Index p x parts) code) (of x (length code)) (λ j. code_of_all program this names parts j
-        ++ index_code (is_point (syntactic_type program this x)) (how_many parts) p) (walked_is x code)
+        ++ index_code (is_point_type (syntactic_type program this x)) (how_many parts) p) (walked_is x code)
         (two (on x code) (append_exprs program this names parts (on x code)) (code_of_all program this names parts (length (on x code)))
-        (λ j. index_code (is_point (syntactic_type program this x)) (how_many parts) p) (all_is parts (on x code)))
+        (λ j. index_code (is_point_type (syntactic_type program this x)) (how_many parts) p) (all_is parts (on x code)))
     walked_is _ code = refl
 
     pub all_is : (xs : NumberedExps) (code : List Instr) → append_exprs program this names xs code ≡ code ++ code_of_all program this names xs (length code)

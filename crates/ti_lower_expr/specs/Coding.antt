@@ -11,7 +11,7 @@ use Rattle.ti_lang.specs.Program.Types as t
 use Rattle.ti_lang.specs.Program.Expressions.{NumberedExp, NumberedExps, NumberedRange, NumberedRanges}
 use Rattle.ti_lang.specs.Program.Expressions as e
 use Rattle.ti_lang.specs.Program.Classes.{ProgramView}
-use Rattle.ti_lang.specs.Typing.Kinds.{is_local, is_point, class_of_type}
+use Rattle.ti_lang.specs.Typing.Kinds.{is_local, is_point_type, class_of_type}
 use Rattle.ti_lang.specs.Typing.Declared.{field_numbered}
 use Rattle.ti_lang.specs.Typing.BuiltIn as b
 use Rattle.ti_lang.specs.Typing.Called.{member_called}
@@ -130,10 +130,10 @@ unary_code un.Complement = i.Alone one.Com ∷ []
 -- ---- short-circuit operators
 
 -- The value of the left operand for which the right one isn't evaluated.
-abbrev pub short_circuit : BinaryOperator → ShortCircuit
-short_circuit op.OrElse = Where true
-short_circuit op.AndThen = Where false
-short_circuit other = Never
+abbrev pub short_circuit_of : BinaryOperator → ShortCircuit
+short_circuit_of op.OrElse = Where true
+short_circuit_of op.AndThen = Where false
+short_circuit_of other = Never
 
 -- Jumps if the operand has this value.
 abbrev pub jump_where : Bool → ℕ → Instr
@@ -234,7 +234,7 @@ module _ (program : ProgramView) (this : Option ℕ) (names : List Name) where
         code_of_ranges ranges at ++ rect_instr (kind_of_ranges program this ranges) (how_many_ranges ranges) p ∷ []
     code_of (e.Unary p op x) at = code_of x at ++ unary_code op
     code_of (e.Binary p op x y) at =
-        code_of x at ++ operator_code (short_circuit op) (operation_in program this op x y) p (pc_after at (code_of x at)) (code_of y)
+        code_of x at ++ operator_code (short_circuit_of op) (operation_in program this op x y) p (pc_after at (code_of x at)) (code_of y)
     code_of (e.Cast p type x) at = code_of x at ++ (conversion p type.type (known_of program this x) ++ local_test p (is_local type.type))
     code_of (e.Select p x name) at =
         code_of x at ++ i.GetField (unwrap_or (option_and_then (field_numbered program name) (class_of_type (syntactic_type program this x)))
@@ -243,7 +243,7 @@ module _ (program : ProgramView) (this : Option ℕ) (names : List Name) where
         code_of x at ++ (code_of_all args (pc_after at (code_of x at)) ++ member_code (member_called program this x name) (how_many args) p)
     code_of (e.Index p x parts) at =
         code_of x at ++ (code_of_all parts (pc_after at (code_of x at))
-        ++ index_code (is_point (syntactic_type program this x)) (how_many parts) p)
+        ++ index_code (is_point_type (syntactic_type program this x)) (how_many parts) p)
     code_of (e.Call p method args) at = i.Const (v.Bool false) ∷ []
     code_of (e.OwnCall p method args) at = i.Const (v.Bool false) ∷ []
 

@@ -9,7 +9,7 @@ use Rattle.ti_lang.specs.Program.Types as t
 use Rattle.ti_lang.specs.Program.Expressions.{NumberedExp}
 use Rattle.ti_lang.specs.Program.Expressions as e
 use Rattle.ti_lang.specs.Program.Classes.{ProgramView}
-use Rattle.ti_lang.specs.Typing.Kinds.{is_point}
+use Rattle.ti_lang.specs.Typing.Kinds.{is_point_type}
 use Rattle.ti_lang.specs.Typing.BuiltIn as b
 use Rattle.ti_lang.specs.Typing.Called.{member_called}
 use Rattle.ti_lang.specs.Typing.TextTypes.{syntactic_type}
@@ -97,5 +97,5 @@ module _ (program : ProgramView) (this : Option ℕ) where
   known_of (e.Binary p op x y) = operated_known op (known_of x) (known_of y)
   known_of (e.Cast p type x) = known_of_type type.type
   known_of (e.Member p x name args) = member_known (member_called program this x name)
-  known_of (e.Index p x parts) = index_known (is_point (syntactic_type program this x))
+  known_of (e.Index p x parts) = index_known (is_point_type (syntactic_type program this x))
   known_of other = known.Other

@@ -31,5 +31,5 @@ abbrev pub push_param_names : List VariableUse → List Name → List Name
 push_param_names [] ns = ns
 push_param_names (p ∷ ps) ns = push_param_names ps (Of p ∷ ns)
 
-abbrev pub names_of : NumberedMethod → List Name
-names_of m = push_param_names (parameters_of m.params) (this_names (this_of m))
+abbrev pub names_in_method : NumberedMethod → List Name
+names_in_method m = push_param_names (parameters_of m.params) (this_names (this_of m))

@@ -13,5 +13,5 @@ slot_name_of (slot.Point number) = Point number
 slot_name_of slot.Hidden = Hidden
 
 -- The names, the newest first.
-abbrev pub names_of : List SlotName → List Name
-names_of names = map slot_name_of (reverse names)
+abbrev pub slot_names_of : List SlotName → List Name
+slot_names_of names = map slot_name_of (reverse names)

@@ -4,7 +4,7 @@
 ghost use Rattle.std.specs.Prelude.{◌≡◌, option_map, Some};
 ghost use Rattle.ti_syntax.specs.declared.tree.exprs.BinaryOperator.TheVariants as op;
 ghost use Rattle.ti_lang.specs.Program.Views.{program_of, expression_of, value_type_of, declared_of};
-ghost use Rattle.ti_lang.specs.Typing.Kinds.{is_point as is_point_spec};
+ghost use Rattle.ti_lang.specs.Typing.Kinds.{is_point_type as is_point_spec};
 ghost use Rattle.ti_lang.specs.Typing.TyRef.{ty_view, built_in_of};
 ghost use Rattle.ti_lower_expr.specs.Coding as coding;
 ghost use Rattle.ti_lower_expr.specs.Knowing as knowing;
@@ -42,7 +42,7 @@ pub enum ShortCircuit {
 
 /// Whether an operator is short-circuit: `||` and `&&` are.
 pub fn short_circuit_of(operator: BinaryOperator) -> ShortCircuit
-    ensures { result ≡ coding.short_circuit operator }
+    ensures { result ≡ coding.short_circuit_of operator }
 {
     match operator {
         BinaryOperator::OrElse => ShortCircuit::Where(true),

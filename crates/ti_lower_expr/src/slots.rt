@@ -5,7 +5,7 @@ ghost use Rattle.ti_lang.specs.Program.Views.{variable_of};
 ghost use Rattle.ti_lower_expr.specs.declared.slots.SlotName.TheVariants as slot;
 ghost use Rattle.ti_lower_expr.specs.Noted.{AreNoted, variable_number};
 ghost use Rattle.ti_lower_expr.specs.Slots.{is_meant, find_slot, has_this};
-ghost use Rattle.ti_lower_expr.specs.Views.{slot_name_of, names_of};
+ghost use Rattle.ti_lower_expr.specs.Views.{slot_name_of, slot_names_of};
 
 use std::alloc::Global;
 use ti_base::Memory;
@@ -98,7 +98,7 @@ fn is_this(name: &SlotName) -> bool
 impl<'p> Slots<'p> {
     /// No slots.
     pub fn new(alloc: Global) -> Slots<'p>
-        ensures { names_of result.names.items ≡ [] }
+        ensures { slot_names_of result.names.items ≡ [] }
     {
         Slots {
             names: Vec::new(alloc),
@@ -108,15 +108,15 @@ impl<'p> Slots<'p> {
 
     /// How many slots there are.
     pub fn len(&self) -> usize
-        ensures { result ≡ length (names_of self.now.names.items) }
+        ensures { result ≡ length (slot_names_of self.now.names.items) }
     {
         self.names.len()
     }
 
     /// Adds a slot. After out of memory the slots are unchanged.
     pub fn push(&mut self, name: SlotName<'p>) -> Result<(), Memory>
-        ensures added { OnOk result (names_of self.new.names.items ≡ slot_name_of name.entry ∷ names_of self.old.names.items) }
-        ensures err { OnErr result (names_of self.new.names.items ≡ names_of self.old.names.items) }
+        ensures added { OnOk result (slot_names_of self.new.names.items ≡ slot_name_of name.entry ∷ slot_names_of self.old.names.items) }
+        ensures err { OnErr result (slot_names_of self.new.names.items ≡ slot_names_of self.old.names.items) }
     {
         match variable_number(&name) {
             Some(number) => {
@@ -132,7 +132,7 @@ impl<'p> Slots<'p> {
 
     /// Keeps the `len` oldest slots.
     pub fn cut(&mut self, len: usize)
-        ensures { names_of self.new.names.items ≡ drop (length (names_of self.old.names.items) - len) (names_of self.old.names.items) }
+        ensures { slot_names_of self.new.names.items ≡ drop (length (slot_names_of self.old.names.items) - len) (slot_names_of self.old.names.items) }
     {
         self.names.truncate(len);
     }
@@ -153,7 +153,7 @@ impl<'p> Slots<'p> {
 
     /// The newest slot that a variable denotes, counted from the oldest.
     pub fn find(&self, variable: &Variable) -> Option<usize>
-        ensures { result ≡ find_slot (variable_of variable.now) (names_of self.now.names.items) }
+        ensures { result ≡ find_slot (variable_of variable.now) (slot_names_of self.now.names.items) }
     {
         let mut n = self.end(variable.number);
         while n > 0 {
@@ -167,7 +167,7 @@ impl<'p> Slots<'p> {
 
     /// Whether there is a slot of `this`.
     pub fn has_this(&self) -> bool
-        ensures { result ≡ has_this (names_of self.now.names.items) }
+        ensures { result ≡ has_this (slot_names_of self.now.names.items) }
     {
         for name in &self.names {
             if is_this(name) {

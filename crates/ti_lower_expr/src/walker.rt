@@ -11,7 +11,7 @@ ghost use Rattle.ti_lang.specs.Typing.TextTypes.{how_many, used_type as used_spe
 ghost use Rattle.ti_lang.specs.Program.Views.{program_of, expression_of, bound_of, variable_of};
 ghost use Rattle.ti_lang.specs.Typing.TyRef.{ty_view, built_in_of};
 ghost use Rattle.ti_lang.specs.Typing.Declared.{field_numbered};
-ghost use Rattle.ti_lang.specs.Typing.Kinds.{is_point as is_point_spec, class_of_type};
+ghost use Rattle.ti_lang.specs.Typing.Kinds.{is_point_type as is_point_spec, class_of_type};
 ghost use Rattle.ti_lower_expr.specs.declared.kinds.StaticRepr.TheVariants as known;
 ghost use Rattle.ti_lower_expr.specs.Knowing as knowing;
 ghost use Rattle.ti_lower_expr.specs.Coding as coding;
@@ -153,7 +153,7 @@ fn append_operator<'context, 'a>(
     right: &'a Expr,
     out: &mut Vec<Instr>,
 ) -> Result<StaticValue<'a>, Memory>
-    ensures code { OnOk result (out.new.items ≡ append_operator (coding.short_circuit operator)
+    ensures code { OnOk result (out.new.items ≡ append_operator (coding.short_circuit_of operator)
         (coding.operation operator (coding.kind_of_type (ty_view left.entry))
         (coding.kind_of_type (type_in context.now (expression_of right.now)))) place
         (walked_in context.now (expression_of right.now)) out.old.items) }

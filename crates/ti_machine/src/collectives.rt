@@ -9,7 +9,7 @@ ghost use Rattle.ti_lang.specs.Meaning.Steps.{lies_in as lies_in_spec};
 ghost use Rattle.ti_code.specs.Programs.{Code as Methods};
 ghost use Rattle.ti_code.specs.declared.instr.Instr.TheVariants as i;
 ghost use Rattle.ti_code.specs.Machine as seen;
-ghost use Rattle.ti_machine.specs.Mirrors.FrameStates.{state_of};
+ghost use Rattle.ti_machine.specs.Mirrors.FrameStates.{local_state_of};
 ghost use Rattle.ti_machine.specs.Mirrors.Machines.{machine_of, IsInstrResult, IsArrivalPayload, KeepsRest};
 
 use crate::machine::{Frame, Machine, StepResult};
@@ -68,7 +68,7 @@ fn as_u32(number: i64) -> Result<u32, Memory>
 impl FrameState {
     // How many slots of the frame refer to something in a region.
     fn count_refs_into(&self, region: u32) -> usize
-        ensures { result ≡ count_by (λ (h : Seen). lies_in_spec region (referent_of h)) (state_of self.now).slots }
+        ensures { result ≡ count_by (λ (h : Seen). lies_in_spec region (referent_of h)) (local_state_of self.now).slots }
     {
         let mut count = 0;
         for h in &self.slots {

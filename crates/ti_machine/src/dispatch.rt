@@ -2,7 +2,7 @@
 
 ghost use Rattle.std.specs.Prelude.{◌≡◌, ◌+◌, ℕ, List, Option, true};
 ghost use Rattle.ti_code.specs.Forms.{IsFormedInstr};
-ghost use Rattle.ti_machine.specs.Mirrors.FrameStates.{state_of, who, InstrOutcome};
+ghost use Rattle.ti_machine.specs.Mirrors.FrameStates.{local_state_of, who, InstrOutcome};
 ghost use Rattle.ti_machine.specs.Mirrors.Instrs.{stays};
 
 use crate::state::FrameState;
@@ -22,7 +22,7 @@ impl FrameState {
         requires next { next ≡ self.old.at + 1 }
         requires form { IsFormedInstr instr.now }
         requires stays { stays instr.now ≡ true }
-        ensures { (receivers : List (Option ℕ)) → InstrOutcome (who team receivers) instr.now result (state_of self.old) (state_of self.new) }
+        ensures { (receivers : List (Option ℕ)) → InstrOutcome (who team receivers) instr.now result (local_state_of self.old) (local_state_of self.new) }
     {
         match instr {
             Instr::Const(value) => self.constant(*value, next),

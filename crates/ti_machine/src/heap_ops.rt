@@ -6,7 +6,7 @@ ghost use Rattle.ti_code.specs.Effects.{Who, process_of_point};
 ghost use Rattle.ti_code.specs.declared.instr.Instr.TheVariants as i;
 ghost use Rattle.ti_lang.specs.Meaning.Held.{plain_of};
 ghost use Rattle.ti_code.specs.Effects.{top};
-ghost use Rattle.ti_machine.specs.Mirrors.FrameStates.{state_of, InstrOutcome};
+ghost use Rattle.ti_machine.specs.Mirrors.FrameStates.{local_state_of, InstrOutcome};
 
 use crate::state::FrameState;
 use ti_base::{Action, FaultKind, Place, Zero};
@@ -29,7 +29,7 @@ impl FrameState {
         next: usize,
     ) -> Result<(), Interrupt>
         requires next { next ≡ self.old.at + 1 }
-        ensures { (w : Who) → InstrOutcome w (i.GetField field place) result (state_of self.old) (state_of self.new) }
+        ensures { (w : Who) → InstrOutcome w (i.GetField field place) result (local_state_of self.old) (local_state_of self.new) }
     {
         let thing = self.last_thing();
         self.drop_top();
@@ -48,7 +48,7 @@ impl FrameState {
         next: usize,
     ) -> Result<(), Interrupt>
         requires next { next ≡ self.old.at + 1 }
-        ensures { (w : Who) → InstrOutcome w (i.PutField field place) result (state_of self.old) (state_of self.new) }
+        ensures { (w : Who) → InstrOutcome w (i.PutField field place) result (local_state_of self.old) (local_state_of self.new) }
     {
         let value = self.last_value();
         self.drop_top();
@@ -64,7 +64,7 @@ impl FrameState {
     /// Reads an element of a grid. A null reference is a fault.
     pub(crate) fn get_element(&mut self, at: Place, next: usize) -> Result<(), Interrupt>
         requires next { next ≡ self.old.at + 1 }
-        ensures { (w : Who) → InstrOutcome w (i.GetElem at) result (state_of self.old) (state_of self.new) }
+        ensures { (w : Who) → InstrOutcome w (i.GetElem at) result (local_state_of self.old) (local_state_of self.new) }
     {
         let point = self.last_point();
         self.drop_top();
@@ -80,7 +80,7 @@ impl FrameState {
     /// Writes an element of a grid. A null reference is a fault.
     pub(crate) fn put_element(&mut self, at: Place, next: usize) -> Result<(), Interrupt>
         requires next { next ≡ self.old.at + 1 }
-        ensures { (w : Who) → InstrOutcome w (i.PutElem at) result (state_of self.old) (state_of self.new) }
+        ensures { (w : Who) → InstrOutcome w (i.PutElem at) result (local_state_of self.old) (local_state_of self.new) }
     {
         let value = self.last_value();
         self.drop_top();
@@ -112,7 +112,7 @@ impl FrameState {
         next: usize,
     ) -> Result<(), Interrupt>
         requires next { next ≡ self.old.at + 1 }
-        ensures { (w : Who) → InstrOutcome w (i.NewObj class place) result (state_of self.old) (state_of self.new) }
+        ensures { (w : Who) → InstrOutcome w (i.NewObj class place) result (local_state_of self.old) (local_state_of self.new) }
     {
         let region = self.pop()?.region();
         self.at = next;
@@ -127,7 +127,7 @@ impl FrameState {
         next: usize,
     ) -> Result<(), Interrupt>
         requires next { next ≡ self.old.at + 1 }
-        ensures { (w : Who) → InstrOutcome w (i.NewGrid zero place) result (state_of self.old) (state_of self.new) }
+        ensures { (w : Who) → InstrOutcome w (i.NewGrid zero place) result (local_state_of self.old) (local_state_of self.new) }
     {
         let (x, y) = self.pop_two()?;
         let region = x.region();
@@ -145,7 +145,7 @@ impl FrameState {
         next: usize,
     ) -> Result<(), Interrupt>
         requires next { next ≡ self.old.at + 1 }
-        ensures { (w : Who) → InstrOutcome w (i.Print literal valued place) result (state_of self.old) (state_of self.new) }
+        ensures { (w : Who) → InstrOutcome w (i.Print literal valued place) result (local_state_of self.old) (local_state_of self.new) }
     {
         if valued {
             let value = self.pop()?.value();
@@ -171,7 +171,7 @@ impl FrameState {
     /// Takes what the process whose point is the top operand contributed to the last exchange.
     pub(crate) fn take(&mut self, place: Place, next: usize) -> Result<(), Interrupt>
         requires next { next ≡ self.old.at + 1 }
-        ensures { (w : Who) → InstrOutcome w (i.Take place) result (state_of self.old) (state_of self.new) }
+        ensures { (w : Who) → InstrOutcome w (i.Take place) result (local_state_of self.old) (local_state_of self.new) }
     {
         let h = self.pop()?;
         let who = process_of(&h);

@@ -6,7 +6,7 @@ ghost use Rattle.ti_base.specs.Points.{IsDim};
 ghost use Rattle.ti_code.specs.Effects.{Who};
 ghost use Rattle.ti_code.specs.Forms.{IsFormedValue};
 ghost use Rattle.ti_code.specs.declared.instr.Instr.TheVariants as i;
-ghost use Rattle.ti_machine.specs.Mirrors.FrameStates.{state_of, who, InstrOutcome};
+ghost use Rattle.ti_machine.specs.Mirrors.FrameStates.{local_state_of, who, InstrOutcome};
 
 use crate::domains::no_points;
 use crate::operand::StackOperand;
@@ -20,7 +20,7 @@ impl FrameState {
     pub(crate) fn constant(&mut self, value: Value, next: usize) -> Result<(), Interrupt>
         requires next { next ≡ self.old.at + 1 }
         requires form { IsFormedValue value }
-        ensures { (w : Who) → InstrOutcome w (i.Const value) result (state_of self.old) (state_of self.new) }
+        ensures { (w : Who) → InstrOutcome w (i.Const value) result (local_state_of self.old) (local_state_of self.new) }
     {
         self.push(VarValue::plain(value))?;
         self.at = next;
@@ -36,7 +36,7 @@ impl FrameState {
     ) -> Result<(), Interrupt>
         requires next { next ≡ self.old.at + 1 }
         requires form { IsDim dim }
-        ensures { (w : Who) → InstrOutcome w (i.EmptyDom dim) result (state_of self.old) (state_of self.new) }
+        ensures { (w : Who) → InstrOutcome w (i.EmptyDom dim) result (local_state_of self.old) (local_state_of self.new) }
     {
         self.push(no_points(alloc, dim)?)?;
         self.at = next;
@@ -47,7 +47,7 @@ impl FrameState {
     #[tactic(auto, using(crate::proofs::Reversed::reversed))]
     pub(crate) fn drop_one(&mut self, next: usize) -> Result<(), Interrupt>
         requires next { next ≡ self.old.at + 1 }
-        ensures { (w : Who) → InstrOutcome w i.Pop result (state_of self.old) (state_of self.new) }
+        ensures { (w : Who) → InstrOutcome w i.Pop result (local_state_of self.old) (local_state_of self.new) }
     {
         let _dropped = self.stack.pop();
         self.at = next;
@@ -58,7 +58,7 @@ impl FrameState {
     #[tactic(auto, using(crate::proofs::Reversed::reversed))]
     pub(crate) fn double(&mut self, alloc: Global, next: usize) -> Result<(), Interrupt>
         requires next { next ≡ self.old.at + 1 }
-        ensures { (w : Who) → InstrOutcome w i.Dup result (state_of self.old) (state_of self.new) }
+        ensures { (w : Who) → InstrOutcome w i.Dup result (local_state_of self.old) (local_state_of self.new) }
     {
         let o = match self.stack.last() {
             Some(o) => o.copy(alloc)?,
@@ -72,7 +72,7 @@ impl FrameState {
     /// Pushes the value of a slot.
     pub(crate) fn load(&mut self, alloc: Global, index: u32, next: usize) -> Result<(), Interrupt>
         requires next { next ≡ self.old.at + 1 }
-        ensures { (w : Who) → InstrOutcome w (i.Load index) result (state_of self.old) (state_of self.new) }
+        ensures { (w : Who) → InstrOutcome w (i.Load index) result (local_state_of self.old) (local_state_of self.new) }
     {
         let h = self.slot(alloc, index)?;
         self.push(h)?;
@@ -83,7 +83,7 @@ impl FrameState {
     /// Pops the top operand into a slot.
     pub(crate) fn keep(&mut self, index: u32, next: usize) -> Result<(), Interrupt>
         requires next { next ≡ self.old.at + 1 }
-        ensures { (w : Who) → InstrOutcome w (i.Keep index) result (state_of self.old) (state_of self.new) }
+        ensures { (w : Who) → InstrOutcome w (i.Keep index) result (local_state_of self.old) (local_state_of self.new) }
     {
         let h = self.pop()?;
         self.put(index as usize, h)?;
@@ -94,7 +94,7 @@ impl FrameState {
     /// Keeps the `count` oldest slots.
     pub(crate) fn trim(&mut self, count: u32, next: usize) -> Result<(), Interrupt>
         requires next { next ≡ self.old.at + 1 }
-        ensures { (w : Who) → InstrOutcome w (i.Trim count) result (state_of self.old) (state_of self.new) }
+        ensures { (w : Who) → InstrOutcome w (i.Trim count) result (local_state_of self.old) (local_state_of self.new) }
     {
         self.cut(count as usize);
         self.at = next;
@@ -104,7 +104,7 @@ impl FrameState {
     /// Pushes the number of the process.
     pub(crate) fn this_proc(&mut self, team: Rank, next: usize) -> Result<(), Interrupt>
         requires next { next ≡ self.old.at + 1 }
-        ensures { (receivers : List (Option ℕ)) → InstrOutcome (who team receivers) i.ThisProc result (state_of self.old) (state_of self.new) }
+        ensures { (receivers : List (Option ℕ)) → InstrOutcome (who team receivers) i.ThisProc result (local_state_of self.old) (local_state_of self.new) }
     {
         self.push(VarValue::plain(Value::Int(team.number as i32)))?;
         self.at = next;
@@ -114,7 +114,7 @@ impl FrameState {
     /// Pushes the number of processes.
     pub(crate) fn num_procs(&mut self, team: Rank, next: usize) -> Result<(), Interrupt>
         requires next { next ≡ self.old.at + 1 }
-        ensures { (receivers : List (Option ℕ)) → InstrOutcome (who team receivers) i.NumProcs result (state_of self.old) (state_of self.new) }
+        ensures { (receivers : List (Option ℕ)) → InstrOutcome (who team receivers) i.NumProcs result (local_state_of self.old) (local_state_of self.new) }
     {
         self.push(VarValue::plain(Value::Int(team.procs as i32)))?;
         self.at = next;
@@ -123,7 +123,7 @@ impl FrameState {
 
     /// Continues at the target.
     pub(crate) fn jump(&mut self, target: u32) -> Result<(), Interrupt>
-        ensures { (w : Who) → InstrOutcome w (i.Jump target) result (state_of self.old) (state_of self.new) }
+        ensures { (w : Who) → InstrOutcome w (i.Jump target) result (local_state_of self.old) (local_state_of self.new) }
     {
         self.at = target as usize;
         Ok(())
@@ -132,7 +132,7 @@ impl FrameState {
     /// Pops a boolean and jumps if it is true.
     pub(crate) fn jump_if(&mut self, target: u32, next: usize) -> Result<(), Interrupt>
         requires next { next ≡ self.old.at + 1 }
-        ensures { (w : Who) → InstrOutcome w (i.JumpIf target) result (state_of self.old) (state_of self.new) }
+        ensures { (w : Who) → InstrOutcome w (i.JumpIf target) result (local_state_of self.old) (local_state_of self.new) }
     {
         let h = self.pop()?;
         if h.is_true() {
@@ -146,7 +146,7 @@ impl FrameState {
     /// Pops a boolean and jumps if it is false.
     pub(crate) fn jump_if_not(&mut self, target: u32, next: usize) -> Result<(), Interrupt>
         requires next { next ≡ self.old.at + 1 }
-        ensures { (w : Who) → InstrOutcome w (i.JumpIfNot target) result (state_of self.old) (state_of self.new) }
+        ensures { (w : Who) → InstrOutcome w (i.JumpIfNot target) result (local_state_of self.old) (local_state_of self.new) }
     {
         let h = self.pop()?;
         if h.is_true() {
@@ -166,7 +166,7 @@ impl FrameState {
         next: usize,
     ) -> Result<(), Interrupt>
         requires next { next ≡ self.old.at + 1 }
-        ensures { (w : Who) → InstrOutcome w (i.Next index target) result (state_of self.old) (state_of self.new) }
+        ensures { (w : Who) → InstrOutcome w (i.Next index target) result (local_state_of self.old) (local_state_of self.new) }
     {
         let Some(o) = self.stack.pop() else {
             self.at = target as usize;

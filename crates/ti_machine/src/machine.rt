@@ -10,7 +10,7 @@ ghost use Rattle.ti_code.specs.declared.instr.Instr.TheVariants as i;
 ghost use Rattle.ti_code.specs.Effects.{LocalState};
 ghost use Rattle.ti_code.specs.Forms.{IsFormedInstr};
 ghost use Rattle.ti_code.specs.Machine as seen;
-ghost use Rattle.ti_machine.specs.Mirrors.FrameStates.{state_of, apply_answer, FrameOutcome, answer_use_of};
+ghost use Rattle.ti_machine.specs.Mirrors.FrameStates.{local_state_of, apply_answer, FrameOutcome, answer_use_of};
 ghost use Rattle.ti_machine.specs.Mirrors.Instrs.{stays, instrs_at};
 ghost use Rattle.ti_machine.specs.Mirrors.Machines.{machine_of, after_answer, RequestsAt, IsStepResult, IsInstrResult, IsLocalResult, IsCallResult};
 
@@ -120,7 +120,7 @@ impl Machine {
     // Turns an interrupted instruction into a suspension, a fault or out of memory.
     fn suspend_or_fault(&self, stop: Interrupt, answer_use: AnswerUse) -> Result<StepResult, Memory>
         ensures { IfOk result (λ t. (c : Methods) (s : LocalState) (e : Comp LocalState)
-            → FrameOutcome {A = Unit {0}} (Err stop) answer_use e (state_of self.now.top.state) → IsLocalResult c self.now s e t) }
+            → FrameOutcome {A = Unit {0}} (Err stop) answer_use e (local_state_of self.now.top.state) → IsLocalResult c self.now s e t) }
     {
         match stop {
             Interrupt::Request(at, action) => Ok(self.request(at, action, answer_use)),
@@ -206,7 +206,7 @@ impl Machine {
         requires { stack.items ≡ [] }
         ensures { IfOk result (λ t. (c : Methods) (callee : Method) (s : LocalState) (own args stack : List Seen)
             → callee.instrs ≡ instrs_at c method → reverse slots.items ≡ reverse args ++ own
-            → state_of self.old.top.state ≡ record s { stack = stack } → next ≡ s.at + 1
+            → local_state_of self.old.top.state ≡ record s { stack = stack } → next ≡ s.at + 1
             → IsCallResult c self.old at callee s own args stack t self.new) }
     {
         if self.spent >= self.fuel {

@@ -4,7 +4,7 @@
 ghost use Rattle.std.specs.Prelude.{◌≡◌, ◌+◌, ◌<◌, ◌^◌, [], ◌∷◌, reverse, length, IfOk, vec_len, vec_capacity};
 ghost use Rattle.ti_lang.specs.Meaning.Held.{Held as Seen, plain_of, point_of, referent_of};
 ghost use Rattle.ti_code.specs.Effects.{top, below, top_operands, under, slot, put, oldest_slots};
-ghost use Rattle.ti_machine.specs.Mirrors.FrameStates.{state_of};
+ghost use Rattle.ti_machine.specs.Mirrors.FrameStates.{local_state_of};
 
 use crate::operand::StackOperand;
 use crate::state::FrameState;
@@ -16,7 +16,7 @@ impl FrameState {
     /// Pushes an operand.
     #[tactic(auto, using(crate::proofs::Reversed::reversed))]
     pub(crate) fn push(&mut self, held: VarValue) -> Result<(), Memory>
-        ensures { IfOk result (λ _. state_of self.new ≡ record (state_of self.old) { stack = held ∷ (state_of self.old).stack }) }
+        ensures { IfOk result (λ _. local_state_of self.new ≡ record (local_state_of self.old) { stack = held ∷ (local_state_of self.old).stack }) }
     {
         self.stack.push(StackOperand::of(held))?;
         Ok(())
@@ -26,7 +26,7 @@ impl FrameState {
     #[tactic(auto, using(crate::proofs::Reversed::reversed))]
     pub(crate) fn push_within(&mut self, held: VarValue)
         requires { vec_len self.old.stack < vec_capacity self.old.stack }
-        ensures { state_of self.new ≡ record (state_of self.old) { stack = held ∷ (state_of self.old).stack } }
+        ensures { local_state_of self.new ≡ record (local_state_of self.old) { stack = held ∷ (local_state_of self.old).stack } }
     {
         let _ = self.stack.push(StackOperand::of(held));
     }
@@ -34,8 +34,8 @@ impl FrameState {
     /// Pops the top operand; `false` if the stack is empty.
     #[tactic(auto, using(crate::proofs::Reversed::reversed))]
     pub(crate) fn pop(&mut self) -> Result<VarValue, Memory>
-        ensures value { IfOk result (λ h. h ≡ top (state_of self.old).stack) }
-        ensures rest { state_of self.new ≡ record (state_of self.old) { stack = below (state_of self.old).stack } }
+        ensures value { IfOk result (λ h. h ≡ top (local_state_of self.old).stack) }
+        ensures rest { local_state_of self.new ≡ record (local_state_of self.old) { stack = below (local_state_of self.old).stack } }
     {
         match self.stack.pop() {
             Some(o) => o.into_held(),
@@ -46,7 +46,7 @@ impl FrameState {
     /// The object or the grid that the top operand refers to, if there is one.
     #[tactic(auto, using(crate::proofs::Reversed::lasts))]
     pub(crate) fn last_thing(&self) -> Option<Id>
-        ensures { result ≡ referent_of (top (state_of self.now).stack) }
+        ensures { result ≡ referent_of (top (local_state_of self.now).stack) }
     {
         match self.stack.last() {
             Some(o) => o.thing(),
@@ -57,7 +57,7 @@ impl FrameState {
     /// The value that the top operand is.
     #[tactic(auto, using(crate::proofs::Reversed::lasts))]
     pub(crate) fn last_value(&self) -> Value
-        ensures { result ≡ plain_of (top (state_of self.now).stack) }
+        ensures { result ≡ plain_of (top (local_state_of self.now).stack) }
     {
         match self.stack.last() {
             Some(o) => o.value(),
@@ -68,7 +68,7 @@ impl FrameState {
     /// The point that the top operand is.
     #[tactic(auto, using(crate::proofs::Reversed::lasts))]
     pub(crate) fn last_point(&self) -> Point
-        ensures { result ≡ point_of (top (state_of self.now).stack) }
+        ensures { result ≡ point_of (top (local_state_of self.now).stack) }
     {
         match self.stack.last() {
             Some(o) => o.point(),
@@ -84,16 +84,16 @@ impl FrameState {
     /// Drops the top operand.
     #[tactic(auto, using(crate::proofs::Reversed::reversed))]
     pub(crate) fn drop_top(&mut self)
-        ensures { state_of self.new ≡ record (state_of self.old) { stack = below (state_of self.old).stack } }
+        ensures { local_state_of self.new ≡ record (local_state_of self.old) { stack = below (local_state_of self.old).stack } }
     {
         let _dropped = self.stack.pop();
     }
 
     /// Pops the two top operands and returns them in the order in which they were pushed.
     pub(crate) fn pop_two(&mut self) -> Result<(VarValue, VarValue), Memory>
-        ensures under { IfOk result (λ p. p.0 ≡ top (below (state_of self.old).stack)) }
-        ensures last { IfOk result (λ p. p.1 ≡ top (state_of self.old).stack) }
-        ensures rest { IfOk result (λ _. state_of self.new ≡ record (state_of self.old) { stack = below (below (state_of self.old).stack) }) }
+        ensures under { IfOk result (λ p. p.0 ≡ top (below (local_state_of self.old).stack)) }
+        ensures last { IfOk result (λ p. p.1 ≡ top (local_state_of self.old).stack) }
+        ensures rest { IfOk result (λ _. local_state_of self.new ≡ record (local_state_of self.old) { stack = below (below (local_state_of self.old).stack) }) }
     {
         let y = self.pop()?;
         let x = self.pop()?;
@@ -102,8 +102,8 @@ impl FrameState {
 
     /// Pops the `count` top operands and returns them in the order in which they were pushed.
     pub(crate) fn take_args(&mut self, alloc: Global, count: u64) -> Result<Vec<VarValue>, Memory>
-        ensures args { IfOk result (λ v. v.items ≡ top_operands count (state_of self.old).stack []) }
-        ensures rest { IfOk result (λ _. state_of self.new ≡ record (state_of self.old) { stack = under count (state_of self.old).stack }) }
+        ensures args { IfOk result (λ v. v.items ≡ top_operands count (local_state_of self.old).stack []) }
+        ensures rest { IfOk result (λ _. local_state_of self.new ≡ record (local_state_of self.old) { stack = under count (local_state_of self.old).stack }) }
     {
         self.take_args_into(count, Vec::new(alloc))
     }
@@ -115,8 +115,8 @@ impl FrameState {
         room: Vec<VarValue>,
     ) -> Result<Vec<VarValue>, Memory>
         requires { room.items ≡ [] }
-        ensures args { IfOk result (λ v. v.items ≡ top_operands count (state_of self.old).stack []) }
-        ensures rest { IfOk result (λ _. state_of self.new ≡ record (state_of self.old) { stack = under count (state_of self.old).stack }) }
+        ensures args { IfOk result (λ v. v.items ≡ top_operands count (local_state_of self.old).stack []) }
+        ensures rest { IfOk result (λ _. local_state_of self.new ≡ record (local_state_of self.old) { stack = under count (local_state_of self.old).stack }) }
     {
         let mut args = room;
         for k in 0..count {
@@ -129,7 +129,7 @@ impl FrameState {
 
     /// A copy of the value in a slot; `false` if there is no such slot.
     pub(crate) fn slot(&self, alloc: Global, index: u32) -> Result<VarValue, Memory>
-        ensures { IfOk result (λ h. h ≡ slot index (state_of self.now).slots) }
+        ensures { IfOk result (λ h. h ≡ slot index (local_state_of self.now).slots) }
     {
         match self.slots.get(index as usize) {
             Some(h) => Ok(h.copy(alloc)?),
@@ -140,7 +140,7 @@ impl FrameState {
     /// Writes a slot; adds one if there are at most `index`.
     #[tactic(auto, using(crate::proofs::Reversed::putting))]
     pub(crate) fn put(&mut self, index: usize, held: VarValue) -> Result<(), Memory>
-        ensures { IfOk result (λ _. state_of self.new ≡ record (state_of self.old) { slots = put index held (state_of self.old).slots }) }
+        ensures { IfOk result (λ _. local_state_of self.new ≡ record (local_state_of self.old) { slots = put index held (local_state_of self.old).slots }) }
     {
         if index < self.slots.len() {
             self.slots[index] = held;
@@ -153,7 +153,7 @@ impl FrameState {
     /// Keeps the `count` oldest slots.
     #[tactic(auto, using(crate::proofs::Reversed::cutting))]
     pub(crate) fn cut(&mut self, count: usize)
-        ensures { state_of self.new ≡ record (state_of self.old) { slots = oldest_slots count (state_of self.old).slots } }
+        ensures { local_state_of self.new ≡ record (local_state_of self.old) { slots = oldest_slots count (local_state_of self.old).slots } }
     {
         self.slots.truncate(count);
     }

@@ -8,7 +8,7 @@ ghost use Rattle.ti_eval.specs.Comes.{Comes};
 ghost use Rattle.ti_code.specs.Effects.{LocalState, Who, binary_operator_of, unary_operator_of, built_in_member, push_result};
 ghost use Rattle.ti_code.specs.declared.instr.Instr.TheVariants as i;
 ghost use Rattle.ti_machine.specs.declared.state.AnswerUse.TheVariants.{Push};
-ghost use Rattle.ti_machine.specs.Mirrors.FrameStates.{state_of, who, ValueOutcome, FrameOutcome, InstrOutcome};
+ghost use Rattle.ti_machine.specs.Mirrors.FrameStates.{local_state_of, who, ValueOutcome, FrameOutcome, InstrOutcome};
 ghost use Rattle.ti_machine.specs.Requests.{RequestsAtMostOnce};
 
 use crate::domains::{bounds, intersection, numbers_of};
@@ -103,8 +103,8 @@ impl FrameState {
         next: usize,
     ) -> Result<(), Interrupt>
         ensures { (s : LocalState) (st : List Seen) (m : Comp Seen)
-            → state_of self.old ≡ record s { stack = st } → next ≡ s.at + 1 → ValueOutcome got m
-            → FrameOutcome result Push (push_result s st m) (state_of self.new) }
+            → local_state_of self.old ≡ record s { stack = st } → next ≡ s.at + 1 → ValueOutcome got m
+            → FrameOutcome result Push (push_result s st m) (local_state_of self.new) }
     {
         self.at = next;
         let h = got?;
@@ -121,7 +121,7 @@ impl FrameState {
         next: usize,
     ) -> Result<(), Interrupt>
         requires next { next ≡ self.old.at + 1 }
-        ensures { (w : Who) → InstrOutcome w (i.Operate operation place) result (state_of self.old) (state_of self.new) }
+        ensures { (w : Who) → InstrOutcome w (i.Operate operation place) result (local_state_of self.old) (local_state_of self.new) }
     {
         let (x, y) = self.pop_two()?;
         let got = value_of(apply_binary(alloc, place, operator(operation), &x, y, &[]));
@@ -135,7 +135,7 @@ impl FrameState {
         next: usize,
     ) -> Result<(), Interrupt>
         requires next { next ≡ self.old.at + 1 }
-        ensures { (w : Who) → InstrOutcome w (i.Alone operation) result (state_of self.old) (state_of self.new) }
+        ensures { (w : Who) → InstrOutcome w (i.Alone operation) result (local_state_of self.old) (local_state_of self.new) }
     {
         let h = self.pop()?;
         self.push(apply_unary(unary_operator(operation), h))?;
@@ -146,7 +146,7 @@ impl FrameState {
     /// Converts an int to a long.
     pub(crate) fn widen(&mut self, next: usize) -> Result<(), Interrupt>
         requires next { next ≡ self.old.at + 1 }
-        ensures { (w : Who) → InstrOutcome w i.Widen result (state_of self.old) (state_of self.new) }
+        ensures { (w : Who) → InstrOutcome w i.Widen result (local_state_of self.old) (local_state_of self.new) }
     {
         let h = self.pop()?;
         self.push(as_long(h))?;
@@ -157,7 +157,7 @@ impl FrameState {
     /// Converts a long to an int.
     pub(crate) fn narrow(&mut self, next: usize) -> Result<(), Interrupt>
         requires next { next ≡ self.old.at + 1 }
-        ensures { (w : Who) → InstrOutcome w i.Narrow result (state_of self.old) (state_of self.new) }
+        ensures { (w : Who) → InstrOutcome w i.Narrow result (local_state_of self.old) (local_state_of self.new) }
     {
         let h = self.pop()?;
         self.push(as_int(h))?;
@@ -168,7 +168,7 @@ impl FrameState {
     /// Makes `null` a reference to an object.
     pub(crate) fn as_object(&mut self, next: usize) -> Result<(), Interrupt>
         requires next { next ≡ self.old.at + 1 }
-        ensures { (w : Who) → InstrOutcome w i.AsObj result (state_of self.old) (state_of self.new) }
+        ensures { (w : Who) → InstrOutcome w i.AsObj result (local_state_of self.old) (local_state_of self.new) }
     {
         let h = self.pop()?;
         self.push(VarValue::plain(Value::Obj(h.thing())))?;
@@ -179,7 +179,7 @@ impl FrameState {
     /// Makes `null` a reference to a grid.
     pub(crate) fn as_grid(&mut self, next: usize) -> Result<(), Interrupt>
         requires next { next ≡ self.old.at + 1 }
-        ensures { (w : Who) → InstrOutcome w i.AsGrid result (state_of self.old) (state_of self.new) }
+        ensures { (w : Who) → InstrOutcome w i.AsGrid result (local_state_of self.old) (local_state_of self.new) }
     {
         let h = self.pop()?;
         self.push(VarValue::plain(Value::Grid(h.thing())))?;
@@ -195,7 +195,7 @@ impl FrameState {
         next: usize,
     ) -> Result<(), Interrupt>
         requires next { next ≡ self.old.at + 1 }
-        ensures { (w : Who) → InstrOutcome w (i.MakePt count) result (state_of self.old) (state_of self.new) }
+        ensures { (w : Who) → InstrOutcome w (i.MakePt count) result (local_state_of self.old) (local_state_of self.new) }
     {
         let args = self.take_args(alloc, u64::from(count))?;
         let numbers = numbers_of(alloc, &args)?;
@@ -213,7 +213,7 @@ impl FrameState {
         next: usize,
     ) -> Result<(), Interrupt>
         requires next { next ≡ self.old.at + 1 }
-        ensures { (w : Who) → InstrOutcome w (i.Coord count place) result (state_of self.old) (state_of self.new) }
+        ensures { (w : Who) → InstrOutcome w (i.Coord count place) result (local_state_of self.old) (local_state_of self.new) }
     {
         let args = self.take_args(alloc, u64::from(count))?;
         let h = self.pop()?;
@@ -226,7 +226,7 @@ impl FrameState {
     #[tactic(auto, using(crate::proofs::Reversed::reversed))]
     pub(crate) fn step(&mut self, next: usize) -> Result<(), Interrupt>
         requires next { next ≡ self.old.at + 1 }
-        ensures { (w : Who) → InstrOutcome w i.Step result (state_of self.old) (state_of self.new) }
+        ensures { (w : Who) → InstrOutcome w i.Step result (local_state_of self.old) (local_state_of self.new) }
     {
         let Some(high) = self.stack.pop() else {
             self.push(VarValue::plain(Value::Int(1)))?;
@@ -252,7 +252,7 @@ impl FrameState {
         next: usize,
     ) -> Result<(), Interrupt>
         requires next { next ≡ self.old.at + 1 }
-        ensures { (w : Who) → InstrOutcome w (i.MakeRect count place) result (state_of self.old) (state_of self.new) }
+        ensures { (w : Who) → InstrOutcome w (i.MakeRect count place) result (local_state_of self.old) (local_state_of self.new) }
     {
         let args = self.take_args(alloc, 3 * u64::from(count))?;
         let b = bounds(alloc, &args)?;
@@ -263,7 +263,7 @@ impl FrameState {
     /// Pushes the intersection of two rectangular domains.
     pub(crate) fn meet(&mut self, alloc: Global, next: usize) -> Result<(), Interrupt>
         requires next { next ≡ self.old.at + 1 }
-        ensures { (w : Who) → InstrOutcome w i.Common result (state_of self.old) (state_of self.new) }
+        ensures { (w : Who) → InstrOutcome w i.Common result (local_state_of self.old) (local_state_of self.new) }
     {
         let (x, y) = self.pop_two()?;
         let h = intersection(alloc, &x.rect(), &y.rect())?;
@@ -280,7 +280,7 @@ impl FrameState {
         next: usize,
     ) -> Result<(), Interrupt>
         requires next { next ≡ self.old.at + 1 }
-        ensures { (w : Who) → InstrOutcome w (i.ToDom place) result (state_of self.old) (state_of self.new) }
+        ensures { (w : Who) → InstrOutcome w (i.ToDom place) result (local_state_of self.old) (local_state_of self.new) }
     {
         let h = self.pop()?;
         let got = value_of(to_domain(alloc, place, h, &[]));
@@ -297,7 +297,7 @@ impl FrameState {
         next: usize,
     ) -> Result<(), Interrupt>
         requires next { next ≡ self.old.at + 1 }
-        ensures { (w : Who) → InstrOutcome w (i.Member kind count place) result (state_of self.old) (state_of self.new) }
+        ensures { (w : Who) → InstrOutcome w (i.Member kind count place) result (local_state_of self.old) (local_state_of self.new) }
     {
         let args = self.take_args(alloc, u64::from(count))?;
         let h = self.pop()?;
@@ -313,7 +313,7 @@ impl FrameState {
         next: usize,
     ) -> Result<(), Interrupt>
         requires next { next ≡ self.old.at + 1 }
-        ensures { (receivers : List (Option ℕ)) → InstrOutcome (who team receivers) (i.CastLocal place) result (state_of self.old) (state_of self.new) }
+        ensures { (receivers : List (Option ℕ)) → InstrOutcome (who team receivers) (i.CastLocal place) result (local_state_of self.old) (local_state_of self.new) }
     {
         let h = self.pop()?;
         let ty = Ty::Class {
@@ -332,7 +332,7 @@ impl FrameState {
         next: usize,
     ) -> Result<(), Interrupt>
         requires next { next ≡ self.old.at + 1 }
-        ensures { (receivers : List (Option ℕ)) → InstrOutcome (who team receivers) (i.RootTest place) result (state_of self.old) (state_of self.new) }
+        ensures { (receivers : List (Option ℕ)) → InstrOutcome (who team receivers) (i.RootTest place) result (local_state_of self.old) (local_state_of self.new) }
     {
         let n = self.pop()?.integer();
         if n < 0 || n >= i64::from(team.procs) {
@@ -351,7 +351,7 @@ impl FrameState {
         next: usize,
     ) -> Result<(), Interrupt>
         requires next { next ≡ self.old.at + 1 }
-        ensures { (receivers : List (Option ℕ)) → InstrOutcome (who team receivers) (i.GridTest place) result (state_of self.old) (state_of self.new) }
+        ensures { (receivers : List (Option ℕ)) → InstrOutcome (who team receivers) (i.GridTest place) result (local_state_of self.old) (local_state_of self.new) }
     {
         let h = self.pop()?;
         if !is_rect_of_procs(&h.rect(), team.procs) {

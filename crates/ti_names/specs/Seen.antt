@@ -26,8 +26,8 @@ abbrev pub scope_of_names : List (List ℕ × Variable) → List Known
 scope_of_names names = map (λ e. (e.0, variable_of e.1)) names
 
 -- the model of a context
-abbrev pub context_of : NameContext → scopes.Site
-context_of a = record {
+abbrev pub site_of : NameContext → scopes.Site
+site_of a = record {
   text = text_of_tables a.tables.now;
   class = a.class;
   static = a.is_static;

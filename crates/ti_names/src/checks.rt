@@ -1,7 +1,7 @@
 // Diagnostics: the first broken naming rule in types, expressions and initializers. Resolution itself (exprs.rt) reports nothing.
 
 ghost use Rattle.std.specs.Prelude.{◌≡◌, ◌&&◌, ◌∷◌, [], if◌then◌else◌, map, is_none, is_some};
-ghost use Rattle.ti_syntax.specs.Trees.Views.{exp_of, range_of, type_of, dims_of, init_of, maybe_of};
+ghost use Rattle.ti_syntax.specs.Trees.Views.{exp_of, range_of, type_tree_of, dims_of, init_of, maybe_of};
 ghost use Rattle.ti_syntax.specs.Trees.Expressions.{exps, ranges_tree};
 ghost use Rattle.ti_lang.specs.Scopes.{variable_named, own_field_named, own_method_named, class_before_dot};
 ghost use Rattle.ti_lang.specs.Nodes.{node, ClassUse, VariableName, base_nodes, type_nodes, exp_nodes, exps_nodes, range_nodes, ranges_nodes, maybe_nodes, dims_nodes, init_nodes};
@@ -11,7 +11,7 @@ ghost use Rattle.ti_rules.specs.Mirrors.First.{earliest};
 ghost use Rattle.ti_rules.specs.BrokenNames.{lacks_method};
 ghost use Rattle.ti_rules.specs.MainForm.{is_another};
 ghost use Rattle.ti_names.specs.Found.{first_in};
-ghost use Rattle.ti_names.specs.Seen.{context_of};
+ghost use Rattle.ti_names.specs.Seen.{site_of};
 
 use crate::context::NameContext;
 use ti_base::Place;
@@ -37,22 +37,22 @@ impl<'t, 'a> NameContext<'t, 'a> {
     /// The use of a class name. Error: N1 if there is no such class.
     #[tactic(auto, using(crate::proofs::Firsts::in_nodes))]
     pub fn check_class_use(&self, place: Place, name: &Spelled) -> Option<Refusal>
-        ensures { result ≡ first_in (node (context_of self.now) (ClassUse place name.now) ∷ []) }
+        ensures { result ≡ first_in (node (site_of self.now) (ClassUse place name.now) ∷ []) }
     {
         let class = self.tables.class(name.as_bytes());
         refused_if(class.is_none(), Rule::N1, place)
     }
 
     fn check_name(&self, place: Place, name: &[u8]) -> Option<Refusal>
-        ensures { result ≡ earliest (refused_where (is_none (variable_named (context_of self.now) name.now) && is_none
-            (own_field_named (context_of self.now) name.now)) N1 place) }
+        ensures { result ≡ earliest (refused_where (is_none (variable_named (site_of self.now) name.now) && is_none
+            (own_field_named (site_of self.now) name.now)) N1 place) }
     {
         let unknown = self.variable(name).is_none() && self.own_field(name).is_none();
         refused_if(unknown, Rule::N1, place)
     }
 
     fn check_method_use(&self, place: Place, name: &[u8]) -> Option<Refusal>
-        ensures { result ≡ earliest (refused_where (is_none (own_method_named (context_of self.now) name.now)) N1 place) }
+        ensures { result ≡ earliest (refused_where (is_none (own_method_named (site_of self.now) name.now)) N1 place) }
     {
         let method = self.own_method(name);
         refused_if(method.is_none(), Rule::N1, place)
@@ -60,7 +60,7 @@ impl<'t, 'a> NameContext<'t, 'a> {
 
     /// A static call: the method name after the class name. Error: N1 if the class has no such static method.
     fn check_static(&self, place: Place, class: Option<u32>, name: &[u8]) -> Option<Refusal>
-        ensures { result ≡ earliest (refused_where (lacks_method (context_of self.now) class name.now) N1 place) }
+        ensures { result ≡ earliest (refused_where (lacks_method (site_of self.now) class name.now) N1 place) }
     {
         let lacks = match class {
             Some(class) => self.static_method(class, name).is_none(),
@@ -72,7 +72,7 @@ impl<'t, 'a> NameContext<'t, 'a> {
     /// The declaration of a variable. Errors: N2 if the name is in scope already, N4 if too many variables are in scope.
     #[tactic(auto, using(crate::proofs::Firsts::in_nodes, crate::proofs::Lists::scopes, ti_rules::proofs::Lemmas::firsts))]
     pub fn check_variable(&self, place: Place, name: &Spelled) -> Option<Refusal>
-        ensures { result ≡ first_in (node (context_of self.now) (VariableName place name.now) ∷ []) }
+        ensures { result ≡ first_in (node (site_of self.now) (VariableName place name.now) ∷ []) }
     {
         let is_known = self.variable(name.as_bytes()).is_some();
         let is_full = MOST_VARIABLES <= self.scope.len();
@@ -86,7 +86,7 @@ impl<'t, 'a> NameContext<'t, 'a> {
 
     #[tactic(auto, using(crate::proofs::Firsts::in_nodes))]
     fn check_base(&self, base: &tree::Base) -> Option<Refusal>
-        ensures { result ≡ first_in (base_nodes (context_of self.now) base.now) }
+        ensures { result ≡ first_in (base_nodes (site_of self.now) base.now) }
     {
         match base {
             tree::Base::Int(_)
@@ -102,7 +102,7 @@ impl<'t, 'a> NameContext<'t, 'a> {
 
     /// The class name in a type.
     pub fn check_type(&self, ty: &tree::TypeName) -> Option<Refusal>
-        ensures { result ≡ first_in (type_nodes (context_of self.now) (type_of ty.now)) }
+        ensures { result ≡ first_in (type_nodes (site_of self.now) (type_tree_of ty.now)) }
     {
         self.check_base(&ty.base)
     }
@@ -112,7 +112,7 @@ impl<'t, 'a> NameContext<'t, 'a> {
     #[cycle(check_expr)]
     #[tactic(auto, using(crate::proofs::Firsts::none_sooner))]
     fn check_exps(&self, exprs: &[tree::Expr]) -> Option<Refusal>
-        ensures { result ≡ first_in (exps_nodes (context_of self.now) (exps (map exp_of exprs.now))) }
+        ensures { result ≡ first_in (exps_nodes (site_of self.now) (exps (map exp_of exprs.now))) }
     {
         let mut found = None;
         for expr in exprs {
@@ -124,7 +124,7 @@ impl<'t, 'a> NameContext<'t, 'a> {
     #[cycle(check_expr)]
     #[tactic(auto, using(crate::proofs::Firsts::in_nodes))]
     fn check_range(&self, range: &tree::Range) -> Option<Refusal>
-        ensures { result ≡ first_in (range_nodes (context_of self.now) (range_of range.now)) }
+        ensures { result ≡ first_in (range_nodes (site_of self.now) (range_of range.now)) }
     {
         match range {
             tree::Range::Plain { low, high } => earlier_of(
@@ -141,7 +141,7 @@ impl<'t, 'a> NameContext<'t, 'a> {
     #[cycle(check_expr)]
     #[tactic(auto, using(crate::proofs::Firsts::none_sooner))]
     fn check_ranges(&self, ranges: &[tree::Range]) -> Option<Refusal>
-        ensures { result ≡ first_in (ranges_nodes (context_of self.now) (ranges_tree (map range_of ranges.now))) }
+        ensures { result ≡ first_in (ranges_nodes (site_of self.now) (ranges_tree (map range_of ranges.now))) }
     {
         let mut found = None;
         for range in ranges {
@@ -154,8 +154,8 @@ impl<'t, 'a> NameContext<'t, 'a> {
     #[cycle(check_expr)]
     #[tactic(auto, using(crate::proofs::Firsts::in_nodes))]
     fn check_receiver(&self, expr: &tree::Expr) -> Option<Refusal>
-        ensures { result ≡ first_in (if is_some (class_before_dot (context_of self.now) (exp_of expr.now)) then [] else exp_nodes
-            (context_of self.now) (exp_of expr.now)) }
+        ensures { result ≡ first_in (if is_some (class_before_dot (site_of self.now) (exp_of expr.now)) then [] else exp_nodes
+            (site_of self.now) (exp_of expr.now)) }
     {
         if self.class_before_dot(expr).is_some() {
             None
@@ -168,7 +168,7 @@ impl<'t, 'a> NameContext<'t, 'a> {
     #[cycle(check_expr)]
     #[tactic(auto, using(ti_syntax::proofs::Lemmas::bridges, crate::proofs::Firsts::in_nodes, crate::proofs::Firsts::in_expressions))]
     pub fn check_exp(&self, expr: &tree::Expr) -> Option<Refusal>
-        ensures { result ≡ first_in (exp_nodes (context_of self.now) (exp_of expr.now)) }
+        ensures { result ≡ first_in (exp_nodes (site_of self.now) (exp_of expr.now)) }
     {
         match expr {
             tree::Expr::Int(_, _)
@@ -223,7 +223,7 @@ impl<'t, 'a> NameContext<'t, 'a> {
     /// The names in an optional expression.
     #[tactic(auto, using(crate::proofs::Firsts::in_nodes))]
     pub fn check_maybe(&self, expr: &Option<tree::Expr>) -> Option<Refusal>
-        ensures { result ≡ first_in (maybe_nodes (context_of self.now) (maybe_of exp_of expr.now)) }
+        ensures { result ≡ first_in (maybe_nodes (site_of self.now) (maybe_of exp_of expr.now)) }
     {
         match expr {
             Some(expr) => self.check_exp(expr),
@@ -232,7 +232,7 @@ impl<'t, 'a> NameContext<'t, 'a> {
     }
 
     fn check_dims(&self, dims: &tree::Dims) -> Option<Refusal>
-        ensures { result ≡ first_in (dims_nodes (context_of self.now) (dims_of dims.now)) }
+        ensures { result ≡ first_in (dims_nodes (site_of self.now) (dims_of dims.now)) }
     {
         match dims {
             tree::Dims::Domain(x) => self.check_exp(x),
@@ -243,7 +243,7 @@ impl<'t, 'a> NameContext<'t, 'a> {
     /// The names in an initializer.
     #[tactic(auto, using(crate::proofs::Firsts::in_nodes))]
     pub fn check_init(&self, value: &tree::Init) -> Option<Refusal>
-        ensures { result ≡ first_in (init_nodes (context_of self.now) (init_of value.now)) }
+        ensures { result ≡ first_in (init_nodes (site_of self.now) (init_of value.now)) }
     {
         match value {
             tree::Init::Value(x) => self.check_exp(x),

@@ -1,14 +1,14 @@
 // Classes and fields: their resolution, and the naming rules for them.
 
 ghost use Rattle.std.specs.Prelude.{◌≡◌, ◌∷◌, [], ◌++◌, map, IfOk};
-ghost use Rattle.ti_syntax.specs.Trees.Views.{class_of, member_of, field_of, type_of};
+ghost use Rattle.ti_syntax.specs.Trees.Views.{class_of, member_of, field_of, type_tree_of};
 ghost use Rattle.ti_lang.specs.Program.Views.{numbered_field_of, numbered_class_of};
 ghost use Rattle.ti_lang.specs.Members.{fields_in};
 ghost use Rattle.ti_lang.specs.Scopes.{class_site};
 ghost use Rattle.ti_lang.specs.Nodes.{node, FieldName, ClassName, type_nodes, fields_nodes, classes_nodes};
 ghost use Rattle.ti_names.specs.Mirrors.Numbered.{number_field, number_fields, number_class, number_classes};
 ghost use Rattle.ti_names.specs.Found.{first_in};
-ghost use Rattle.ti_names.specs.Seen.{context_of, text_of_tables};
+ghost use Rattle.ti_names.specs.Seen.{site_of, text_of_tables};
 
 use crate::checks::is_another;
 use crate::context::{NameContext, class_site};
@@ -69,8 +69,8 @@ impl<'t, 'a> NameContext<'t, 'a> {
 
     #[tactic(auto, using(crate::proofs::Firsts::in_nodes))]
     fn check_field(&self, number: u32, field: &tree::Field) -> Option<Refusal>
-        ensures { result ≡ first_in (node (context_of self.now) (FieldName number (field_of field.now)) ∷ type_nodes (context_of self.now)
-            (type_of field.now.ty)) }
+        ensures { result ≡ first_in (node (site_of self.now) (FieldName number (field_of field.now)) ∷ type_nodes (site_of self.now)
+            (type_tree_of field.now.ty)) }
     {
         let named = self.tables.field(self.class, field.name.as_bytes());
         let twice = refused_if(is_another(named, number), Rule::N2, field.place);
@@ -79,7 +79,7 @@ impl<'t, 'a> NameContext<'t, 'a> {
 
     #[tactic(auto, using(crate::proofs::Firsts::none_sooner))]
     fn check_fields(&self, members: &[tree::Member]) -> Result<Option<Refusal>, Memory>
-        ensures { IfOk result (λ r. r ≡ first_in (fields_nodes (context_of self.now) 0 (fields_in (map member_of members.now)))) }
+        ensures { IfOk result (λ r. r ≡ first_in (fields_nodes (site_of self.now) 0 (fields_in (map member_of members.now)))) }
     {
         let mut found = None;
         let mut number = 0;
@@ -97,8 +97,8 @@ impl<'t, 'a> NameContext<'t, 'a> {
 
     #[tactic(auto, using(crate::proofs::Firsts::in_nodes))]
     fn check_class(&self, class: &tree::Class) -> Result<Option<Refusal>, Memory>
-        ensures { IfOk result (λ r. r ≡ first_in (node (context_of self.now) (ClassName self.now.class (class_of class.now)) ∷ fields_nodes
-            (context_of self.now) 0 (fields_in (class_of class.now).members))) }
+        ensures { IfOk result (λ r. r ≡ first_in (node (site_of self.now) (ClassName self.now.class (class_of class.now)) ∷ fields_nodes
+            (site_of self.now) 0 (fields_in (class_of class.now).members))) }
     {
         let named = self.tables.class(class.name.as_bytes());
         let twice = refused_if(is_another(named, self.class), Rule::N2, class.place);

@@ -6,7 +6,7 @@ ghost use Rattle.ti_syntax.specs.Trees.Views.{exp_of};
 ghost use Rattle.ti_lang.specs.Program.Views.{variable_of, declared_of};
 ghost use Rattle.ti_lang.specs.Scopes.{variable_named, own_field_named, own_method_named, static_method_named, class_before_dot, class_site, method_site, declares};
 ghost use Rattle.ti_names.specs.MethodDecl.{method_decl_of};
-ghost use Rattle.ti_names.specs.Seen.{context_of, text_of_tables};
+ghost use Rattle.ti_names.specs.Seen.{site_of, text_of_tables};
 
 use crate::method_decls::MethodDecl;
 use crate::names::Names;
@@ -38,7 +38,7 @@ pub struct NameContext<'t, 'a> {
 
 /// The context in a class, outside of methods.
 pub fn class_site<'t, 'a>(alloc: Global, tables: &'t Tables<'a>, class: u32) -> NameContext<'t, 'a>
-    ensures { context_of result ≡ class_site (text_of_tables tables.now) class }
+    ensures { site_of result ≡ class_site (text_of_tables tables.now) class }
 {
     NameContext {
         alloc,
@@ -58,7 +58,7 @@ pub fn method_site<'t, 'a>(
     own: MethodDecl<'a>,
     before: u32,
 ) -> NameContext<'t, 'a>
-    ensures { context_of result ≡ method_site (text_of_tables tables.now) (method_decl_of own.entry) before }
+    ensures { site_of result ≡ method_site (text_of_tables tables.now) (method_decl_of own.entry) before }
 {
     NameContext {
         alloc,
@@ -76,14 +76,14 @@ impl<'t, 'a> NameContext<'t, 'a> {
 
     /// The variable in scope with this name.
     pub fn variable(&self, name: &[u8]) -> Option<&Variable>
-        ensures { option_map (λ v. variable_of v.now) result ≡ variable_named (context_of self.now) name.now }
+        ensures { option_map (λ v. variable_of v.now) result ≡ variable_named (site_of self.now) name.now }
     {
         self.scope.get(name)
     }
 
     /// The field of `this` with this name; None in a static context.
     pub fn own_field(&self, name: &[u8]) -> Option<u32>
-        ensures { result ≡ own_field_named (context_of self.now) name.now }
+        ensures { result ≡ own_field_named (site_of self.now) name.now }
     {
         if self.is_static {
             None
@@ -94,7 +94,7 @@ impl<'t, 'a> NameContext<'t, 'a> {
 
     /// The method that a call by a simple name refers to. In a static context, only static methods are found.
     pub fn own_method(&self, name: &[u8]) -> Option<u32>
-        ensures { result ≡ own_method_named (context_of self.now) name.now }
+        ensures { result ≡ own_method_named (site_of self.now) name.now }
     {
         match self.tables.method(self.class, name) {
             Some(method) => {
@@ -110,7 +110,7 @@ impl<'t, 'a> NameContext<'t, 'a> {
 
     /// The static method of a class that `C.m(..)` refers to.
     pub fn static_method(&self, class: u32, name: &[u8]) -> Option<u32>
-        ensures { result ≡ static_method_named (context_of self.now) class name.now }
+        ensures { result ≡ static_method_named (site_of self.now) class name.now }
     {
         match self.tables.method(class, name) {
             Some(method) => {
@@ -126,7 +126,7 @@ impl<'t, 'a> NameContext<'t, 'a> {
 
     /// The class that an expression before a `.` refers to: a name that is neither a variable nor a field.
     pub fn class_before_dot(&self, expr: &tree::Expr) -> Option<u32>
-        ensures { result ≡ class_before_dot (context_of self.now) (exp_of expr.now) }
+        ensures { result ≡ class_before_dot (site_of self.now) (exp_of expr.now) }
     {
         match expr {
             tree::Expr::Name(_, name) => {
@@ -162,7 +162,7 @@ impl<'t, 'a> NameContext<'t, 'a> {
     #[tactic(auto, using(crate::proofs::Lists::scopes))]
     pub fn declare(&mut self, name: &'a Spelled, declared: Declared) -> Result<u32, Memory>
         ensures number { IfOk result (λ n. n ≡ self.old.variables) }
-        ensures site { OnOk result (context_of self.new ≡ declares (context_of self.old) name.now (declared_of declared)) }
+        ensures site { OnOk result (site_of self.new ≡ declares (site_of self.old) name.now (declared_of declared)) }
     {
         let number = self.variables;
         let behind = next_number(number)?;
@@ -175,7 +175,7 @@ impl<'t, 'a> NameContext<'t, 'a> {
     /// Ends a scope: removes all but the first `len` variables.
     #[tactic(auto, using(crate::proofs::Lists::scopes))]
     pub fn cut(&mut self, len: usize)
-        ensures { context_of self.new ≡ record (context_of self.old) { scope = take len (context_of self.old).scope } }
+        ensures { site_of self.new ≡ record (site_of self.old) { scope = take len (site_of self.old).scope } }
     {
         self.scope.truncate(len);
     }
@@ -183,7 +183,7 @@ impl<'t, 'a> NameContext<'t, 'a> {
     /// Counts a string literal and returns its number.
     pub fn literal(&mut self) -> Result<u32, Memory>
         ensures number { IfOk result (λ n. n ≡ self.old.literals) }
-        ensures site { OnOk result (context_of self.new ≡ record (context_of self.old) { literals = self.old.literals + 1 }) }
+        ensures site { OnOk result (site_of self.new ≡ record (site_of self.old) { literals = self.old.literals + 1 }) }
     {
         let number = self.literals;
         self.literals = next_number(number)?;

@@ -2,7 +2,7 @@
 // checks.rt reports it.
 
 ghost use Rattle.std.specs.Prelude.{◌≡◌, map, IfOk};
-ghost use Rattle.ti_syntax.specs.Trees.Views.{exp_of, type_of, range_of, dims_of, init_of, maybe_of};
+ghost use Rattle.ti_syntax.specs.Trees.Views.{exp_of, type_tree_of, range_of, dims_of, init_of, maybe_of};
 ghost use Rattle.ti_syntax.specs.Trees.Expressions.{exps};
 ghost use Rattle.ti_syntax.specs.Trees.Expressions as t;
 ghost use Rattle.ti_syntax.specs.Trees.Statements as s;
@@ -12,7 +12,7 @@ ghost use Rattle.std.specs.Option.{unwrap_or};
 ghost use Rattle.ti_lang.specs.Members.{class_named};
 ghost use Rattle.ti_lang.specs.Scopes.{static_method_named};
 ghost use Rattle.ti_names.specs.Mirrors.Numbered.{method_call, static_call, number_exp, number_exps, number_range, number_maybe, number_dims, number_init};
-ghost use Rattle.ti_names.specs.Seen.{context_of, text_of_tables};
+ghost use Rattle.ti_names.specs.Seen.{site_of, text_of_tables};
 
 use crate::context::NameContext;
 use ti_base::{Memory, Place};
@@ -36,7 +36,7 @@ fn static_call(place: Place, method: Option<u32>, args: Vec<Expr>) -> Expr
 
 impl<'t, 'a> NameContext<'t, 'a> {
     fn name(&self, place: Place, name: &[u8]) -> Result<Expr, Memory>
-        ensures { IfOk result (λ y. expression_of y ≡ number_exp (context_of self.now) (t.Name place name.now)) }
+        ensures { IfOk result (λ y. expression_of y ≡ number_exp (site_of self.now) (t.Name place name.now)) }
     {
         match self.variable(name) {
             Some(variable) => Ok(Expr::Variable(place, variable.copy(self.alloc)?)),
@@ -75,7 +75,7 @@ impl<'t, 'a> NameContext<'t, 'a> {
     #[cycle(number_expr)]
     #[tactic(auto, using(ti_lang::proofs::Lemmas::program_bridges, crate::proofs::Lists::lists))]
     fn call(&self, place: Place, name: &[u8], args: &[tree::Expr]) -> Result<Expr, Memory>
-        ensures { IfOk result (λ y. expression_of y ≡ number_exp (context_of self.now) (t.call place name.now (map exp_of args.now))) }
+        ensures { IfOk result (λ y. expression_of y ≡ number_exp (site_of self.now) (t.call place name.now (map exp_of args.now))) }
     {
         let method = self.own_method(name);
         let args = self.exps(args)?;
@@ -85,7 +85,7 @@ impl<'t, 'a> NameContext<'t, 'a> {
     #[cycle(number_expr)]
     #[tactic(auto, using(ti_lang::proofs::Lemmas::program_bridges))]
     fn select(&self, place: Place, expr: &tree::Expr, name: &[u8]) -> Result<Expr, Memory>
-        ensures { IfOk result (λ y. expression_of y ≡ number_exp (context_of self.now) (t.Select place (exp_of expr.now) name.now)) }
+        ensures { IfOk result (λ y. expression_of y ≡ number_exp (site_of self.now) (t.Select place (exp_of expr.now) name.now)) }
     {
         if self.class_before_dot(expr).is_some() {
             return Ok(Expr::Null(place));
@@ -107,8 +107,8 @@ impl<'t, 'a> NameContext<'t, 'a> {
         name: &[u8],
         args: &[tree::Expr],
     ) -> Result<Expr, Memory>
-        ensures { IfOk result (λ y. expression_of y ≡ static_call place (static_method_named (context_of self.now) class name.now)
-            (number_exps (context_of self.now) (exps (map exp_of args.now)))) }
+        ensures { IfOk result (λ y. expression_of y ≡ static_call place (static_method_named (site_of self.now) class name.now)
+            (number_exps (site_of self.now) (exps (map exp_of args.now)))) }
     {
         let method = self.static_method(class, name);
         let args = self.exps(args)?;
@@ -117,7 +117,7 @@ impl<'t, 'a> NameContext<'t, 'a> {
 
     #[cycle(number_expr)]
     fn boxed_expr(&self, expr: &tree::Expr) -> Result<Box<Expr>, Memory>
-        ensures { IfOk result (λ y. expression_of y.value ≡ number_exp (context_of self.now) (exp_of expr.now)) }
+        ensures { IfOk result (λ y. expression_of y.value ≡ number_exp (site_of self.now) (exp_of expr.now)) }
     {
         let expr = self.exp(expr)?;
         Ok(Box::new(self.alloc, expr)?)
@@ -125,7 +125,7 @@ impl<'t, 'a> NameContext<'t, 'a> {
 
     #[cycle(number_expr)]
     fn exps(&self, exprs: &[tree::Expr]) -> Result<Vec<Expr>, Memory>
-        ensures { IfOk result (λ ys. map expression_of ys.items ≡ map (number_exp (context_of self.now)) (map exp_of exprs.now)) }
+        ensures { IfOk result (λ ys. map expression_of ys.items ≡ map (number_exp (site_of self.now)) (map exp_of exprs.now)) }
     {
         let mut ys = Vec::with_capacity(self.alloc, exprs.len())?;
         for expr in exprs {
@@ -136,7 +136,7 @@ impl<'t, 'a> NameContext<'t, 'a> {
 
     #[cycle(number_expr)]
     fn range(&self, range: &tree::Range) -> Result<Range, Memory>
-        ensures { IfOk result (λ r. bound_of r ≡ number_range (context_of self.now) (range_of range.now)) }
+        ensures { IfOk result (λ r. bound_of r ≡ number_range (site_of self.now) (range_of range.now)) }
     {
         match range {
             tree::Range::Plain { low, high } => Ok(Range::Plain {
@@ -154,7 +154,7 @@ impl<'t, 'a> NameContext<'t, 'a> {
     /// Resolves ranges.
     #[cycle(number_expr)]
     pub fn ranges(&self, ranges: &[tree::Range]) -> Result<Vec<Range>, Memory>
-        ensures { IfOk result (λ rs. map bound_of rs.items ≡ map (number_range (context_of self.now)) (map range_of ranges.now)) }
+        ensures { IfOk result (λ rs. map bound_of rs.items ≡ map (number_range (site_of self.now)) (map range_of ranges.now)) }
     {
         let mut found = Vec::with_capacity(self.alloc, ranges.len())?;
         for range in ranges {
@@ -167,7 +167,7 @@ impl<'t, 'a> NameContext<'t, 'a> {
     #[cycle(number_expr)]
     #[tactic(auto, using(ti_syntax::proofs::Lemmas::bridges, ti_lang::proofs::Lemmas::program_bridges, crate::proofs::Lists::lists))]
     pub fn exp(&self, expr: &tree::Expr) -> Result<Expr, Memory>
-        ensures { IfOk result (λ y. expression_of y ≡ number_exp (context_of self.now) (exp_of expr.now)) }
+        ensures { IfOk result (λ y. expression_of y ≡ number_exp (site_of self.now) (exp_of expr.now)) }
     {
         match expr {
             tree::Expr::Int(place, number) => Ok(Expr::Int(*place, *number)),
@@ -239,8 +239,8 @@ impl<'t, 'a> NameContext<'t, 'a> {
 
     /// Resolves two expressions.
     pub fn expr_pair(&self, left: &tree::Expr, right: &tree::Expr) -> Result<(Expr, Expr), Memory>
-        ensures first { IfOk result (λ p. expression_of p.0 ≡ number_exp (context_of self.now) (exp_of left.now)) }
-        ensures second { IfOk result (λ p. expression_of p.1 ≡ number_exp (context_of self.now) (exp_of right.now)) }
+        ensures first { IfOk result (λ p. expression_of p.0 ≡ number_exp (site_of self.now) (exp_of left.now)) }
+        ensures second { IfOk result (λ p. expression_of p.1 ≡ number_exp (site_of self.now) (exp_of right.now)) }
     {
         let left = self.exp(left)?;
         Ok((left, self.exp(right)?))
@@ -248,7 +248,7 @@ impl<'t, 'a> NameContext<'t, 'a> {
 
     /// Resolves an optional expression.
     pub fn maybe(&self, expr: &Option<tree::Expr>) -> Result<Option<Expr>, Memory>
-        ensures { IfOk result (λ y. maybe_of expression_of y ≡ number_maybe (context_of self.now) (maybe_of exp_of expr.now)) }
+        ensures { IfOk result (λ y. maybe_of expression_of y ≡ number_maybe (site_of self.now) (maybe_of exp_of expr.now)) }
     {
         match expr {
             Some(expr) => Ok(Some(self.exp(expr)?)),
@@ -257,7 +257,7 @@ impl<'t, 'a> NameContext<'t, 'a> {
     }
 
     fn dims(&self, dims: &tree::Dims) -> Result<Dims, Memory>
-        ensures { IfOk result (λ d. extent_of d ≡ number_dims (context_of self.now) (dims_of dims.now)) }
+        ensures { IfOk result (λ d. extent_of d ≡ number_dims (site_of self.now) (dims_of dims.now)) }
     {
         match dims {
             tree::Dims::Domain(x) => Ok(Dims::Domain(self.exp(x)?)),
@@ -283,8 +283,8 @@ impl<'t, 'a> NameContext<'t, 'a> {
         bracket: Place,
         dims: &tree::Dims,
     ) -> Result<Init, Memory>
-        ensures { IfOk result (λ v. initial_of v ≡ number_init (context_of self.now)
-            (s.NewGrid place (maybe_of exp_of region.now) (type_of element.now) bracket (dims_of dims.now))) }
+        ensures { IfOk result (λ v. initial_of v ≡ number_init (site_of self.now)
+            (s.NewGrid place (maybe_of exp_of region.now) (type_tree_of element.now) bracket (dims_of dims.now))) }
     {
         Ok(Init::NewGrid {
             place,
@@ -297,7 +297,7 @@ impl<'t, 'a> NameContext<'t, 'a> {
 
     /// Resolves an initializer.
     pub fn init(&self, value: &tree::Init) -> Result<Init, Memory>
-        ensures { IfOk result (λ v. initial_of v ≡ number_init (context_of self.now) (init_of value.now)) }
+        ensures { IfOk result (λ v. initial_of v ≡ number_init (site_of self.now) (init_of value.now)) }
     {
         match value {
             tree::Init::Value(x) => Ok(Init::Value(self.exp(x)?)),

@@ -2,7 +2,7 @@
 
 ghost use Rattle.std.specs.Prelude.{◌≡◌, ◌++◌, ◌∷◌, [], map, flat_map, IfOk, OnOk};
 ghost use Rattle.ti_syntax.specs.Trees.Statements.{stms};
-ghost use Rattle.ti_syntax.specs.Trees.Views.{type_of, param_of, params_of, result_of};
+ghost use Rattle.ti_syntax.specs.Trees.Views.{type_tree_of, param_of, params_of, result_of};
 ghost use Rattle.ti_lang.specs.Program.Views.{numbered_param_of, numbered_params_of, numbered_result_of, numbered_method_of};
 ghost use Rattle.ti_lang.specs.Members.{OwnMethod};
 ghost use Rattle.ti_lang.specs.Scopes.{declares, typed_as, behind_params, body_site, literals_in, method_site};
@@ -10,7 +10,7 @@ ghost use Rattle.ti_lang.specs.Nodes.{node, VariableName, MethodName, type_nodes
 ghost use Rattle.ti_names.specs.Mirrors.Numbered.{number_param, number_param_list, number_params, number_result, number_method, number_methods};
 ghost use Rattle.ti_names.specs.Found.{first_in};
 ghost use Rattle.ti_names.specs.MethodDecl.{method_decl_of};
-ghost use Rattle.ti_names.specs.Seen.{context_of, text_of_tables};
+ghost use Rattle.ti_names.specs.Seen.{site_of, text_of_tables};
 
 use crate::checks::is_another;
 use crate::context::{NameContext, method_site};
@@ -37,10 +37,10 @@ impl<'t, 'a> NameContext<'t, 'a> {
     #[tactic(auto, using(crate::proofs::Firsts::in_nodes))]
     fn param(&mut self, param: &'a tree::Param) -> Result<Resolved<Param>, Memory>
         ensures part { IfOk result (λ r. numbered_param_of r.part ≡ number_param (text_of_tables self.old.tables.now) (param_of param.now)) }
-        ensures refusal { IfOk result (λ r. r.refusal ≡ first_in (type_nodes (context_of self.old) (type_of param.now.ty)
-            ++ node (context_of self.old) (VariableName param.now.place param.now.name) ∷ [])) }
-        ensures site { OnOk result (context_of self.new ≡ declares (context_of self.old) param.now.name
-            (typed_as (text_of_tables self.old.tables.now) (type_of param.now.ty))) }
+        ensures refusal { IfOk result (λ r. r.refusal ≡ first_in (type_nodes (site_of self.old) (type_tree_of param.now.ty)
+            ++ node (site_of self.old) (VariableName param.now.place param.now.name) ∷ [])) }
+        ensures site { OnOk result (site_of self.new ≡ declares (site_of self.old) param.now.name
+            (typed_as (text_of_tables self.old.tables.now) (type_tree_of param.now.ty))) }
     {
         let named = self.check_variable(param.place, &param.name);
         let refusal = earlier_of(self.check_type(&param.ty), named);
@@ -60,8 +60,8 @@ impl<'t, 'a> NameContext<'t, 'a> {
     fn param_list(&mut self, params: &'a [tree::Param]) -> Result<Resolved<Vec<Param>>, Memory>
         ensures part { IfOk result (λ r. map numbered_param_of r.part.items
             ≡ number_param_list (text_of_tables self.old.tables.now) (map param_of params.now)) }
-        ensures refusal { IfOk result (λ r. r.refusal ≡ first_in (param_list_nodes (context_of self.old) (map param_of params.now))) }
-        ensures site { OnOk result (context_of self.new ≡ behind_params (context_of self.old) (map param_of params.now)) }
+        ensures refusal { IfOk result (λ r. r.refusal ≡ first_in (param_list_nodes (site_of self.old) (map param_of params.now))) }
+        ensures site { OnOk result (site_of self.new ≡ behind_params (site_of self.old) (map param_of params.now)) }
     {
         let mut done = Vec::new(self.alloc);
         let mut refusal = None;
@@ -79,8 +79,8 @@ impl<'t, 'a> NameContext<'t, 'a> {
     #[tactic(auto, using(crate::proofs::Firsts::in_nodes))]
     fn params(&mut self, params: &'a tree::Params) -> Result<Resolved<Params>, Memory>
         ensures part { IfOk result (λ r. numbered_params_of r.part ≡ number_params (text_of_tables self.old.tables.now) (params_of params.now)) }
-        ensures refusal { IfOk result (λ r. r.refusal ≡ first_in (params_nodes (context_of self.old) (params_of params.now))) }
-        ensures site { OnOk result (context_of self.new ≡ body_site (context_of self.old) (params_of params.now)) }
+        ensures refusal { IfOk result (λ r. r.refusal ≡ first_in (params_nodes (site_of self.old) (params_of params.now))) }
+        ensures site { OnOk result (site_of self.new ≡ body_site (site_of self.old) (params_of params.now)) }
     {
         match params {
             tree::Params::MainArgs(_, _) => Ok(Resolved {
@@ -108,7 +108,7 @@ impl<'t, 'a> NameContext<'t, 'a> {
 
     #[tactic(auto, using(crate::proofs::Firsts::in_nodes))]
     fn check_result(&self, given: &tree::ResultType) -> Option<Refusal>
-        ensures { result ≡ first_in (result_nodes (context_of self.now) (result_of given.now)) }
+        ensures { result ≡ first_in (result_nodes (site_of self.now) (result_of given.now)) }
     {
         match given {
             tree::ResultType::Void(_) => None,
@@ -119,7 +119,7 @@ impl<'t, 'a> NameContext<'t, 'a> {
     /// The first broken naming rule in a method's name and result type.
     #[tactic(auto, using(crate::proofs::Firsts::in_nodes))]
     fn check_head(&self, number: u32, own: MethodDecl<'a>) -> Option<Refusal>
-        ensures { result ≡ first_in (node (context_of self.now) (MethodName number (method_decl_of own.entry)) ∷ result_nodes (context_of self.now)
+        ensures { result ≡ first_in (node (site_of self.now) (MethodName number (method_decl_of own.entry)) ∷ result_nodes (site_of self.now)
             (method_decl_of own.entry).method.result) }
     {
         let named = self.tables.method(own.class, own.method.name.as_bytes());
@@ -130,8 +130,8 @@ impl<'t, 'a> NameContext<'t, 'a> {
     /// Resolves method `number`. The context is at its first parameter.
     #[tactic(auto, using(crate::proofs::Firsts::in_nodes))]
     fn method(&mut self, number: u32, own: MethodDecl<'a>) -> Result<Resolved<Method>, Memory>
-        ensures part { IfOk result (λ r. numbered_method_of r.part ≡ number_method (context_of self.old) (method_decl_of own.entry)) }
-        ensures refusal { IfOk result (λ r. r.refusal ≡ first_in (method_nodes (context_of self.old) number (method_decl_of own.entry))) }
+        ensures part { IfOk result (λ r. numbered_method_of r.part ≡ number_method (site_of self.old) (method_decl_of own.entry)) }
+        ensures refusal { IfOk result (λ r. r.refusal ≡ first_in (method_nodes (site_of self.old) number (method_decl_of own.entry))) }
     {
         let head = self.check_head(number, own);
         let result = self.result(&own.method.result)?;

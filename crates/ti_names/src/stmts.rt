@@ -1,7 +1,7 @@
 // Resolution of statements, together with the naming rules for them. One pass resolves and checks, since both need the scope.
 
 ghost use Rattle.std.specs.Prelude.{◌≡◌, ◌+◌, ◌++◌, map, length, None, IfOk, OnOk};
-ghost use Rattle.ti_syntax.specs.Trees.Views.{exp_of, type_of, init_of, print_of, maybe_of, stm_of};
+ghost use Rattle.ti_syntax.specs.Trees.Views.{exp_of, type_tree_of, init_of, print_of, maybe_of, stm_of};
 ghost use Rattle.ti_syntax.specs.Trees.Statements.{stms};
 ghost use Rattle.ti_syntax.specs.Trees.Statements as s;
 ghost use Rattle.ti_lang.specs.Program.Views.{expression_of, printed_of, statement_of};
@@ -11,7 +11,7 @@ ghost use Rattle.ti_names.specs.Mirrors.Numbered.{number_exp, number_print, numb
 ghost use Rattle.ti_names.specs.Found.{first_in};
 ghost use Rattle.ti_rules.specs.Mirrors.First.{earlier_of};
 ghost use Rattle.ti_names.specs.Branched.{numbered_branches};
-ghost use Rattle.ti_names.specs.Seen.{context_of, tree_maybe, seen_maybe};
+ghost use Rattle.ti_names.specs.Seen.{site_of, tree_maybe, seen_maybe};
 
 use crate::context::NameContext;
 use ti_base::{Memory, Place};
@@ -52,7 +52,7 @@ impl<'t, 'a> NameContext<'t, 'a> {
 
     #[tactic(auto, using(crate::proofs::Firsts::in_nodes))]
     fn check_print(&self, what: &tree::Printed) -> Option<Refusal>
-        ensures { result ≡ first_in (print_nodes (context_of self.now) (print_of what.now)) }
+        ensures { result ≡ first_in (print_nodes (site_of self.now) (print_of what.now)) }
     {
         match what {
             tree::Printed::Nothing => None,
@@ -63,8 +63,8 @@ impl<'t, 'a> NameContext<'t, 'a> {
     }
 
     fn print(&mut self, what: &tree::Printed) -> Result<Printed, Memory>
-        ensures part { IfOk result (λ w. printed_of w ≡ number_print (context_of self.old) (print_of what.now)) }
-        ensures site { OnOk result (context_of self.new ≡ record (context_of self.old)
+        ensures part { IfOk result (λ w. printed_of w ≡ number_print (site_of self.old) (print_of what.now)) }
+        ensures site { OnOk result (site_of self.new ≡ record (site_of self.old)
             { literals = self.old.literals + length (printed_text (print_of what.now)) }) }
     {
         match what {
@@ -84,9 +84,9 @@ impl<'t, 'a> NameContext<'t, 'a> {
         target: &tree::Expr,
         value: &tree::Init,
     ) -> Result<Resolved<Stmt>, Memory>
-        ensures part { IfOk result (λ r. statement_of r.part ≡ number_stm (context_of self.now)
+        ensures part { IfOk result (λ r. statement_of r.part ≡ number_stm (site_of self.now)
             (s.Assign place (exp_of target.now) (init_of value.now))) }
-        ensures refusal { IfOk result (λ r. r.refusal ≡ first_in (stm_nodes (context_of self.now)
+        ensures refusal { IfOk result (λ r. r.refusal ≡ first_in (stm_nodes (site_of self.now)
             (s.Assign place (exp_of target.now) (init_of value.now)))) }
     {
         let refusal = earlier_of(self.check_exp(target), self.check_init(value));
@@ -108,9 +108,9 @@ impl<'t, 'a> NameContext<'t, 'a> {
         target: &tree::Expr,
         value: &tree::Expr,
     ) -> Result<Resolved<Stmt>, Memory>
-        ensures part { IfOk result (λ r. statement_of r.part ≡ number_stm (context_of self.now)
+        ensures part { IfOk result (λ r. statement_of r.part ≡ number_stm (site_of self.now)
             (s.Update place operator (exp_of target.now) (exp_of value.now))) }
-        ensures refusal { IfOk result (λ r. r.refusal ≡ first_in (stm_nodes (context_of self.now)
+        ensures refusal { IfOk result (λ r. r.refusal ≡ first_in (stm_nodes (site_of self.now)
             (s.Update place operator (exp_of target.now) (exp_of value.now)))) }
     {
         let refusal = earlier_of(self.check_exp(target), self.check_exp(value));
@@ -132,8 +132,8 @@ impl<'t, 'a> NameContext<'t, 'a> {
         operator: StepOperator,
         target: &tree::Expr,
     ) -> Result<Resolved<Stmt>, Memory>
-        ensures part { IfOk result (λ r. statement_of r.part ≡ number_stm (context_of self.now) (s.Step place operator (exp_of target.now))) }
-        ensures refusal { IfOk result (λ r. r.refusal ≡ first_in (stm_nodes (context_of self.now)
+        ensures part { IfOk result (λ r. statement_of r.part ≡ number_stm (site_of self.now) (s.Step place operator (exp_of target.now))) }
+        ensures refusal { IfOk result (λ r. r.refusal ≡ first_in (stm_nodes (site_of self.now)
             (s.Step place operator (exp_of target.now)))) }
     {
         Ok(Resolved {
@@ -147,8 +147,8 @@ impl<'t, 'a> NameContext<'t, 'a> {
     }
 
     fn call_stmt(&self, expr: &tree::Expr) -> Result<Resolved<Stmt>, Memory>
-        ensures part { IfOk result (λ r. statement_of r.part ≡ number_stm (context_of self.now) (s.Call (exp_of expr.now))) }
-        ensures refusal { IfOk result (λ r. r.refusal ≡ first_in (stm_nodes (context_of self.now) (s.Call (exp_of expr.now)))) }
+        ensures part { IfOk result (λ r. statement_of r.part ≡ number_stm (site_of self.now) (s.Call (exp_of expr.now))) }
+        ensures refusal { IfOk result (λ r. r.refusal ≡ first_in (stm_nodes (site_of self.now) (s.Call (exp_of expr.now)))) }
     {
         Ok(Resolved {
             part: Stmt::Call(self.exp(expr)?),
@@ -161,8 +161,8 @@ impl<'t, 'a> NameContext<'t, 'a> {
         place: Place,
         value: &Option<tree::Expr>,
     ) -> Result<Resolved<Stmt>, Memory>
-        ensures part { IfOk result (λ r. statement_of r.part ≡ number_stm (context_of self.now) (s.Return place (maybe_of exp_of value.now))) }
-        ensures refusal { IfOk result (λ r. r.refusal ≡ first_in (stm_nodes (context_of self.now)
+        ensures part { IfOk result (λ r. statement_of r.part ≡ number_stm (site_of self.now) (s.Return place (maybe_of exp_of value.now))) }
+        ensures refusal { IfOk result (λ r. r.refusal ≡ first_in (stm_nodes (site_of self.now)
             (s.Return place (maybe_of exp_of value.now)))) }
     {
         Ok(Resolved {
@@ -172,9 +172,9 @@ impl<'t, 'a> NameContext<'t, 'a> {
     }
 
     fn print_stmt(&mut self, place: Place, what: &tree::Printed) -> Result<Resolved<Stmt>, Memory>
-        ensures part { IfOk result (λ r. statement_of r.part ≡ number_stm (context_of self.old) (s.Print place (print_of what.now))) }
-        ensures refusal { IfOk result (λ r. r.refusal ≡ first_in (stm_nodes (context_of self.old) (s.Print place (print_of what.now)))) }
-        ensures site { OnOk result (context_of self.new ≡ site_after (context_of self.old) (s.Print place (print_of what.now))) }
+        ensures part { IfOk result (λ r. statement_of r.part ≡ number_stm (site_of self.old) (s.Print place (print_of what.now))) }
+        ensures refusal { IfOk result (λ r. r.refusal ≡ first_in (stm_nodes (site_of self.old) (s.Print place (print_of what.now)))) }
+        ensures site { OnOk result (site_of self.new ≡ site_after (site_of self.old) (s.Print place (print_of what.now))) }
     {
         let refusal = self.check_print(what);
         Ok(Resolved {
@@ -190,12 +190,12 @@ impl<'t, 'a> NameContext<'t, 'a> {
         name: &'a Spelled,
         value: &tree::Init,
     ) -> Result<Resolved<Stmt>, Memory>
-        ensures part { IfOk result (λ r. statement_of r.part ≡ number_stm (context_of self.old)
-            (s.Declare place (type_of ty.now) name.now (init_of value.now))) }
-        ensures refusal { IfOk result (λ r. r.refusal ≡ first_in (stm_nodes (context_of self.old)
-            (s.Declare place (type_of ty.now) name.now (init_of value.now)))) }
-        ensures site { OnOk result (context_of self.new ≡ site_after (context_of self.old)
-            (s.Declare place (type_of ty.now) name.now (init_of value.now))) }
+        ensures part { IfOk result (λ r. statement_of r.part ≡ number_stm (site_of self.old)
+            (s.Declare place (type_tree_of ty.now) name.now (init_of value.now))) }
+        ensures refusal { IfOk result (λ r. r.refusal ≡ first_in (stm_nodes (site_of self.old)
+            (s.Declare place (type_tree_of ty.now) name.now (init_of value.now)))) }
+        ensures site { OnOk result (site_of self.new ≡ site_after (site_of self.old)
+            (s.Declare place (type_tree_of ty.now) name.now (init_of value.now))) }
     {
         let head = earlier_of(self.check_type(ty), self.check_variable(place, name));
         let refusal = earlier_of(head, self.check_init(value));
@@ -219,9 +219,9 @@ impl<'t, 'a> NameContext<'t, 'a> {
     /// Resolves a statement in a scope of its own.
     #[cycle(walk_stmt)]
     fn scoped_stmt(&mut self, stmt: &'a tree::Stmt) -> Result<Resolved<Box<Stmt>>, Memory>
-        ensures part { IfOk result (λ r. statement_of r.part.value ≡ number_stm (context_of self.old) (stm_of stmt.now)) }
-        ensures refusal { IfOk result (λ r. r.refusal ≡ first_in (stm_nodes (context_of self.old) (stm_of stmt.now))) }
-        ensures site { OnOk result (context_of self.new ≡ past (context_of self.old) (stm_of stmt.now)) }
+        ensures part { IfOk result (λ r. statement_of r.part.value ≡ number_stm (site_of self.old) (stm_of stmt.now)) }
+        ensures refusal { IfOk result (λ r. r.refusal ≡ first_in (stm_nodes (site_of self.old) (stm_of stmt.now))) }
+        ensures site { OnOk result (site_of self.new ≡ past (site_of self.old) (stm_of stmt.now)) }
     {
         let len = self.scope.len();
         let stmt = self.stm(stmt)?;
@@ -239,9 +239,9 @@ impl<'t, 'a> NameContext<'t, 'a> {
         &mut self,
         stmt: &'a Option<Box<tree::Stmt>>,
     ) -> Result<Resolved<Option<Box<Stmt>>>, Memory>
-        ensures part { IfOk result (λ r. seen_maybe r.part ≡ number_maybe_stm (context_of self.old) (tree_maybe stmt.now)) }
-        ensures refusal { IfOk result (λ r. r.refusal ≡ first_in (maybe_stm_nodes (context_of self.old) (tree_maybe stmt.now))) }
-        ensures site { OnOk result (context_of self.new ≡ behind_maybe (context_of self.old) (tree_maybe stmt.now)) }
+        ensures part { IfOk result (λ r. seen_maybe r.part ≡ number_maybe_stm (site_of self.old) (tree_maybe stmt.now)) }
+        ensures refusal { IfOk result (λ r. r.refusal ≡ first_in (maybe_stm_nodes (site_of self.old) (tree_maybe stmt.now))) }
+        ensures site { OnOk result (site_of self.new ≡ behind_maybe (site_of self.old) (tree_maybe stmt.now)) }
     {
         match stmt {
             Some(stmt) => {
@@ -262,9 +262,9 @@ impl<'t, 'a> NameContext<'t, 'a> {
         &mut self,
         stmt: &'a Option<Box<tree::Stmt>>,
     ) -> Result<Resolved<Option<Box<Stmt>>>, Memory>
-        ensures part { IfOk result (λ r. seen_maybe r.part ≡ number_maybe_stm (context_of self.old) (tree_maybe stmt.now)) }
-        ensures refusal { IfOk result (λ r. r.refusal ≡ first_in (maybe_stm_nodes (context_of self.old) (tree_maybe stmt.now))) }
-        ensures site { OnOk result (context_of self.new ≡ past_maybe (context_of self.old) (tree_maybe stmt.now)) }
+        ensures part { IfOk result (λ r. seen_maybe r.part ≡ number_maybe_stm (site_of self.old) (tree_maybe stmt.now)) }
+        ensures refusal { IfOk result (λ r. r.refusal ≡ first_in (maybe_stm_nodes (site_of self.old) (tree_maybe stmt.now))) }
+        ensures site { OnOk result (site_of self.new ≡ past_maybe (site_of self.old) (tree_maybe stmt.now)) }
     {
         match stmt {
             Some(stmt) => {
@@ -282,9 +282,9 @@ impl<'t, 'a> NameContext<'t, 'a> {
     #[cycle(walk_stmt)]
     #[tactic(auto, using(crate::proofs::Firsts::none_sooner))]
     pub fn stms(&mut self, stmts: &'a [tree::Stmt]) -> Result<Resolved<Vec<Stmt>>, Memory>
-        ensures part { IfOk result (λ r. map statement_of r.part.items ≡ number_list (context_of self.old) (map stm_of stmts.now)) }
-        ensures refusal { IfOk result (λ r. r.refusal ≡ first_in (stms_nodes (context_of self.old) (stms (map stm_of stmts.now)))) }
-        ensures site { OnOk result (context_of self.new ≡ behind_all (context_of self.old) (stms (map stm_of stmts.now))) }
+        ensures part { IfOk result (λ r. map statement_of r.part.items ≡ number_list (site_of self.old) (map stm_of stmts.now)) }
+        ensures refusal { IfOk result (λ r. r.refusal ≡ first_in (stms_nodes (site_of self.old) (stms (map stm_of stmts.now)))) }
+        ensures site { OnOk result (site_of self.new ≡ behind_all (site_of self.old) (stms (map stm_of stmts.now))) }
     {
         let mut ys = Vec::with_capacity(self.alloc, stmts.len())?;
         let mut refusal = None;
@@ -298,9 +298,9 @@ impl<'t, 'a> NameContext<'t, 'a> {
 
     #[cycle(walk_stmt)]
     fn block(&mut self, body: &'a [tree::Stmt]) -> Result<Resolved<Stmt>, Memory>
-        ensures part { IfOk result (λ r. statement_of r.part ≡ number_stm (context_of self.old) (s.block (map stm_of body.now))) }
-        ensures refusal { IfOk result (λ r. r.refusal ≡ first_in (stm_nodes (context_of self.old) (s.block (map stm_of body.now)))) }
-        ensures site { OnOk result (context_of self.new ≡ past (context_of self.old) (s.block (map stm_of body.now))) }
+        ensures part { IfOk result (λ r. statement_of r.part ≡ number_stm (site_of self.old) (s.block (map stm_of body.now))) }
+        ensures refusal { IfOk result (λ r. r.refusal ≡ first_in (stm_nodes (site_of self.old) (s.block (map stm_of body.now)))) }
+        ensures site { OnOk result (site_of self.new ≡ past (site_of self.old) (s.block (map stm_of body.now))) }
     {
         let len = self.scope.len();
         let body = self.stms(body)?;
@@ -318,11 +318,11 @@ impl<'t, 'a> NameContext<'t, 'a> {
         body: &'a tree::Stmt,
         condition: &tree::Expr,
     ) -> Result<Resolved<GuardedBody>, Memory>
-        ensures condition { IfOk result (λ r. expression_of r.part.condition ≡ number_exp (context_of self.old) (exp_of condition.now)) }
-        ensures body { IfOk result (λ r. statement_of r.part.body.value ≡ number_stm (context_of self.old) (stm_of body.now)) }
-        ensures refusal { IfOk result (λ r. r.refusal ≡ first_in (exp_nodes (context_of self.old) (exp_of condition.now)
-            ++ stm_nodes (context_of self.old) (stm_of body.now))) }
-        ensures site { OnOk result (context_of self.new ≡ past (context_of self.old) (stm_of body.now)) }
+        ensures condition { IfOk result (λ r. expression_of r.part.condition ≡ number_exp (site_of self.old) (exp_of condition.now)) }
+        ensures body { IfOk result (λ r. statement_of r.part.body.value ≡ number_stm (site_of self.old) (stm_of body.now)) }
+        ensures refusal { IfOk result (λ r. r.refusal ≡ first_in (exp_nodes (site_of self.old) (exp_of condition.now)
+            ++ stm_nodes (site_of self.old) (stm_of body.now))) }
+        ensures site { OnOk result (site_of self.new ≡ past (site_of self.old) (stm_of body.now)) }
     {
         let refusal = self.check_exp(condition);
         let condition = self.exp(condition)?;
@@ -345,10 +345,10 @@ impl<'t, 'a> NameContext<'t, 'a> {
         otherwise: &'a Option<Box<tree::Stmt>>,
     ) -> Result<Resolved<Stmt>, Memory>
         ensures part { IfOk result (λ r. statement_of r.part ≡ numbered_branches place (expression_of head.part.condition)
-            (statement_of head.part.body.value) (number_maybe_stm (context_of self.old) (tree_maybe otherwise.now))) }
+            (statement_of head.part.body.value) (number_maybe_stm (site_of self.old) (tree_maybe otherwise.now))) }
         ensures refusal { IfOk result (λ r. r.refusal ≡ earlier_of head.refusal
-            (first_in (maybe_stm_nodes (context_of self.old) (tree_maybe otherwise.now)))) }
-        ensures site { OnOk result (context_of self.new ≡ past_maybe (context_of self.old) (tree_maybe otherwise.now)) }
+            (first_in (maybe_stm_nodes (site_of self.old) (tree_maybe otherwise.now)))) }
+        ensures site { OnOk result (site_of self.new ≡ past_maybe (site_of self.old) (tree_maybe otherwise.now)) }
     {
         let otherwise = self.maybe_inner(otherwise)?;
         Ok(Resolved {
@@ -371,11 +371,11 @@ impl<'t, 'a> NameContext<'t, 'a> {
         body: &'a tree::Stmt,
         domain: &tree::Expr,
     ) -> Result<Resolved<Stmt>, Memory>
-        ensures part { IfOk result (λ r. statement_of r.part ≡ number_stm (context_of self.old)
+        ensures part { IfOk result (λ r. statement_of r.part ≡ number_stm (site_of self.old)
             (s.Foreach place name_place name.now (exp_of domain.now) (stm_of body.now))) }
-        ensures refusal { IfOk result (λ r. r.refusal ≡ first_in (stm_nodes (context_of self.old)
+        ensures refusal { IfOk result (λ r. r.refusal ≡ first_in (stm_nodes (site_of self.old)
             (s.Foreach place name_place name.now (exp_of domain.now) (stm_of body.now)))) }
-        ensures site { OnOk result (context_of self.new ≡ site_after (context_of self.old)
+        ensures site { OnOk result (site_of self.new ≡ site_after (site_of self.old)
             (s.Foreach place name_place name.now (exp_of domain.now) (stm_of body.now))) }
     {
         let len = self.scope.len();
@@ -399,9 +399,9 @@ impl<'t, 'a> NameContext<'t, 'a> {
     /// Resolves a statement. The most frequent forms have a fast path, which doesn't go through `any_stm`.
     #[cycle(walk_stmt)]
     pub fn stm(&mut self, stmt: &'a tree::Stmt) -> Result<Resolved<Stmt>, Memory>
-        ensures part { IfOk result (λ r. statement_of r.part ≡ number_stm (context_of self.old) (stm_of stmt.now)) }
-        ensures refusal { IfOk result (λ r. r.refusal ≡ first_in (stm_nodes (context_of self.old) (stm_of stmt.now))) }
-        ensures site { OnOk result (context_of self.new ≡ site_after (context_of self.old) (stm_of stmt.now)) }
+        ensures part { IfOk result (λ r. statement_of r.part ≡ number_stm (site_of self.old) (stm_of stmt.now)) }
+        ensures refusal { IfOk result (λ r. r.refusal ≡ first_in (stm_nodes (site_of self.old) (stm_of stmt.now))) }
+        ensures site { OnOk result (site_of self.new ≡ site_after (site_of self.old) (stm_of stmt.now)) }
     {
         match stmt {
             tree::Stmt::Empty => Ok(Resolved::clean(Stmt::Empty)),
@@ -418,9 +418,9 @@ impl<'t, 'a> NameContext<'t, 'a> {
     /// Resolves a statement of any form.
     #[cycle(walk_stmt)]
     fn any_stm(&mut self, stmt: &'a tree::Stmt) -> Result<Resolved<Stmt>, Memory>
-        ensures part { IfOk result (λ r. statement_of r.part ≡ number_stm (context_of self.old) (stm_of stmt.now)) }
-        ensures refusal { IfOk result (λ r. r.refusal ≡ first_in (stm_nodes (context_of self.old) (stm_of stmt.now))) }
-        ensures site { OnOk result (context_of self.new ≡ site_after (context_of self.old) (stm_of stmt.now)) }
+        ensures part { IfOk result (λ r. statement_of r.part ≡ number_stm (site_of self.old) (stm_of stmt.now)) }
+        ensures refusal { IfOk result (λ r. r.refusal ≡ first_in (stm_nodes (site_of self.old) (stm_of stmt.now))) }
+        ensures site { OnOk result (site_of self.new ≡ site_after (site_of self.old) (stm_of stmt.now)) }
     {
         match stmt {
             tree::Stmt::Empty => Ok(Resolved::clean(Stmt::Empty)),

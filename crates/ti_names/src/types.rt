@@ -1,7 +1,7 @@
 // Resolution of types.
 
 ghost use Rattle.std.specs.Prelude.{◌≡◌, map, IfOk};
-ghost use Rattle.ti_syntax.specs.Trees.Views.{type_of, grid_of};
+ghost use Rattle.ti_syntax.specs.Trees.Views.{type_tree_of, grid_of};
 ghost use Rattle.ti_lang.specs.Program.Views.{value_type_of, type_use_of, declared_of};
 ghost use Rattle.ti_lang.specs.Scopes.{base_type, grid_type, numbered_type, typed_as};
 ghost use Rattle.ti_names.specs.Seen.{text_of_tables};
@@ -52,7 +52,7 @@ impl<'t, 'a> NameContext<'t, 'a> {
     /// Resolves a type.
     #[tactic(auto, using(ti_lang::proofs::Lemmas::copies))]
     pub fn type_use(&self, ty: &TypeName) -> Result<TypeUse, Memory>
-        ensures { IfOk result (λ t. type_use_of t ≡ numbered_type (text_of_tables self.now.tables.now) (type_of ty.now)) }
+        ensures { IfOk result (λ t. type_use_of t ≡ numbered_type (text_of_tables self.now.tables.now) (type_tree_of ty.now)) }
     {
         let base = self.base_type(&ty.qualifiers, &ty.base);
         Ok(TypeUse {
@@ -65,7 +65,7 @@ impl<'t, 'a> NameContext<'t, 'a> {
 
     /// What a declaration with this type says of the variable: its type, and whether it is single.
     pub fn declaration_of(&self, ty: &TypeName) -> Result<Declared, Memory>
-        ensures { IfOk result (λ d. declared_of d ≡ typed_as (text_of_tables self.now.tables.now) (type_of ty.now)) }
+        ensures { IfOk result (λ d. declared_of d ≡ typed_as (text_of_tables self.now.tables.now) (type_tree_of ty.now)) }
     {
         let base = self.base_type(&ty.qualifiers, &ty.base);
         Ok(Declared::Typed {

@@ -1,7 +1,7 @@
 // Parsing of classes and their members.
 
 ghost use Rattle.std.specs.Prelude.{[], ◌≡◌};
-ghost use Rattle.ti_syntax.specs.Trees.Views.{class_of, member_of, params_of, result_of, type_of};
+ghost use Rattle.ti_syntax.specs.Trees.Views.{class_of, member_of, params_of, result_of, type_tree_of};
 ghost use Rattle.ti_parse.specs.Mirrors.Classes as spec;
 ghost use Rattle.ti_parse.specs.Mirrors.Pieces as pieces;
 ghost use Rattle.ti_parse.specs.Mirrors.Pieces.{method_body_of};
@@ -148,7 +148,7 @@ impl TextParser {
         modifiers: Vec<Modifier>,
         ty: TypeName,
     ) -> Result<Member, ParseStop>
-        ensures { ParsesAs member_of (spec.field_or_method language_params self.fuel modifiers.items (type_of ty) tokens.old) result tokens.new }
+        ensures { ParsesAs member_of (spec.field_or_method language_params self.fuel modifiers.items (type_tree_of ty) tokens.old) result tokens.new }
     {
         let place = tokens.place();
         let name = tokens.name(self.alloc)?;

@@ -1,7 +1,7 @@
 // Parsing of simple statements: those without statements in them.
 
 ghost use Rattle.std.specs.Prelude.{◌≡◌, false};
-ghost use Rattle.ti_syntax.specs.Trees.Views.{exp_of, print_of, type_of};
+ghost use Rattle.ti_syntax.specs.Trees.Views.{exp_of, print_of, type_tree_of};
 ghost use Rattle.ti_syntax.specs.Spelling.Expressions.{Target};
 ghost use Rattle.ti_parse.specs.Mirrors.Parts as spec;
 ghost use Rattle.ti_syntax.specs.declared.token.TokenKind.TheVariants.{KeywordPrintln};
@@ -35,7 +35,7 @@ impl TextParser {
     /// A declaration without its semicolon, after its type.
     #[tactic(auto, unfolding(crate::specs::Mirrors::Parts::declared))]
     pub fn declaration(self, tokens: &mut Tokens<'_>, ty: TypeName) -> Result<Box<Stmt>, ParseStop>
-        ensures { ParsesAs boxed_stm (spec.declared language_params self.fuel (type_of ty) tokens.old) result tokens.new }
+        ensures { ParsesAs boxed_stm (spec.declared language_params self.fuel (type_tree_of ty) tokens.old) result tokens.new }
     {
         let place = tokens.place();
         let name = tokens.name(self.alloc)?;
@@ -56,7 +56,7 @@ impl TextParser {
         tokens: &mut Tokens<'_>,
         ty: TypeName,
     ) -> Result<Box<Stmt>, ParseStop>
-        ensures { ParsesAs boxed_stm (before_semicolon (spec.declared language_params self.fuel (type_of ty)) tokens.old) result tokens.new }
+        ensures { ParsesAs boxed_stm (before_semicolon (spec.declared language_params self.fuel (type_tree_of ty)) tokens.old) result tokens.new }
     {
         let declared = self.declaration(tokens, ty)?;
         then_expect(tokens, TokenKind::Semicolon, declared)

@@ -1,7 +1,7 @@
 // Parsing of types, with one token of lookahead.
 
 ghost use Rattle.std.specs.Prelude.{[], ◌≡◌};
-ghost use Rattle.ti_syntax.specs.Trees.Views.{type_of};
+ghost use Rattle.ti_syntax.specs.Trees.Views.{type_tree_of};
 ghost use Rattle.ti_parse.specs.Mirrors.Parts as spec;
 ghost use Rattle.ti_parse.specs.Mirrors.ParserParams.{language_params};
 ghost use Rattle.ti_parse_expr.specs.Mirrors.Input.{ParsesAs};
@@ -17,7 +17,7 @@ impl TextParser {
     /// A domain or region type: types that fields and elements can't have.
     #[tactic(auto, unfolding(crate::specs::Mirrors::Parts::wide))]
     pub fn wide_type(self, tokens: &mut Tokens<'_>) -> Result<TypeName, ParseStop>
-        ensures { ParsesAs type_of (spec.wide language_params self.fuel tokens.old) result tokens.new }
+        ensures { ParsesAs type_tree_of (spec.wide language_params self.fuel tokens.old) result tokens.new }
     {
         let place = tokens.place();
         let base = match tokens.peek() {
@@ -42,7 +42,7 @@ impl TextParser {
     /// The type of a field.
     #[tactic(auto, unfolding(crate::specs::Mirrors::Parts::field))]
     pub fn field(self, tokens: &mut Tokens<'_>) -> Result<TypeName, ParseStop>
-        ensures { ParsesAs type_of (spec.field language_params self.fuel tokens.old) result tokens.new }
+        ensures { ParsesAs type_tree_of (spec.field language_params self.fuel tokens.old) result tokens.new }
     {
         let base = base(self.alloc, tokens)?;
         field_type(self.alloc, tokens, self.fuel, base)
@@ -51,7 +51,7 @@ impl TextParser {
     /// Any type.
     #[tactic(auto, unfolding(crate::specs::Mirrors::Parts::any_type))]
     pub fn any_type(self, tokens: &mut Tokens<'_>) -> Result<TypeName, ParseStop>
-        ensures { ParsesAs type_of (spec.any_type language_params self.fuel tokens.old) result tokens.new }
+        ensures { ParsesAs type_tree_of (spec.any_type language_params self.fuel tokens.old) result tokens.new }
     {
         if is_wide(tokens.peek()) {
             self.wide_type(tokens)

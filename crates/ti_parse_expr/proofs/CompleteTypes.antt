@@ -14,14 +14,14 @@ use Rattle.ti_syntax.specs.Spelling.Types.{Arity, Based, Qualified, Gridded, Fie
 use Rattle.ti_syntax.specs.Spelling.Types as grammar
 use Rattle.ti_parse_expr.specs.Mirrors.Input.{and_then, kind, next_is, expect, take_token}
 use Rattle.ti_parse_expr.specs.Mirrors.Types as spec
-use Rattle.ti_parse_expr.specs.Mirrors.Types.{dim_from_int, dimension, arity, base, qualifiers, grid_dimension, grid, grids, field_type}
+use Rattle.ti_parse_expr.specs.Mirrors.Types.{dim_from_int, arity_number, arity, base, qualifiers, grid_dimension, grid, grids, field_type}
 use Rattle.ti_parse_expr.proofs.Law.{append_nil}
 use Rattle.ti_parse_expr.proofs.Follows.{then_ok, test_reads, expect_reads}
 
 dim_of_small : (n : ℕ) → 1 ≤ n → n ≤ 3 → dim_from_int (pos n) ≡ Some n
 dim_of_small n low high = rw (le-leb 1 n low, le-leb n 3 high) refl
 
-dimension_reads : (t : Token) (n : ℕ) (r : List Token) → t.kind ≡ k.Int (pos n) → 1 ≤ n → n ≤ 3 → dimension (t ∷ r) ≡ Ok (n, r)
+dimension_reads : (t : Token) (n : ℕ) (r : List Token) → t.kind ≡ k.Int (pos n) → 1 ≤ n → n ≤ 3 → arity_number (t ∷ r) ≡ Ok (n, r)
 dimension_reads t n r h low high = ap (λ q. spec.dimension_by q (t ∷ r)) h ∙ ap (λ d. spec.dimension_if d (t ∷ r)) (dim_of_small n low high)
 
 pub arity_reads : {l : List Token} {n : ℕ} → Arity l n → (r : List Token) → arity (l ++ r) ≡ Ok (n, r)

@@ -17,7 +17,7 @@ use Rattle.ti_syntax.specs.Spelling.Operators.{prefix_of, infix_of, strength, qu
 use Rattle.ti_syntax.specs.Spelling.Expressions.{Target, Call, Other}
 use Rattle.ti_parse_expr.specs.Mirrors.Input.{At, OutOfFuel, Parser, and_then, kind, place, next_is, spells, expect, take_token, any_name, name_of_kind}
 use Rattle.ti_parse_expr.specs.Mirrors.Types as types
-use Rattle.ti_parse_expr.specs.Mirrors.Types.{dim_from_int, dimension, arity, base as type_base, qualifiers, grid, grids, field_type}
+use Rattle.ti_parse_expr.specs.Mirrors.Types.{dim_from_int, arity_number, arity, base as type_base, qualifiers, grid, grids, field_type}
 use Rattle.ti_parse_expr.specs.Mirrors.Exprs as spec
 use Rattle.ti_parse_expr.specs.Mirrors.Exprs.{Operand, begins_type, is_dim_token, more_args, args, more_parts, parts_from, parts, range_from}
 use Rattle.ti_parse_expr.specs.Mirrors.Exprs.{more_ranges, ranges_from, bracket, process_name, process, name_or_call, member, index, postfix}

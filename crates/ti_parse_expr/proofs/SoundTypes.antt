@@ -15,7 +15,7 @@ use Rattle.ti_syntax.specs.Spelling.Types.{Arity, Based, Qualified, Gridded, Fie
 use Rattle.ti_syntax.specs.Spelling.Types as grammar
 use Rattle.ti_parse_expr.specs.Mirrors.Input.{Parser, and_then, expect, take_token}
 use Rattle.ti_parse_expr.specs.Mirrors.Types as spec
-use Rattle.ti_parse_expr.specs.Mirrors.Types.{dim_from_int, dimension, arity, base, qualifiers, grid, grids, field_type}
+use Rattle.ti_parse_expr.specs.Mirrors.Types.{dim_from_int, arity_number, arity, base, qualifiers, grid, grids, field_type}
 use Rattle.ti_parse_expr.specs.Mirrors.Exprs.{begins_type}
 use Rattle.ti_parse_expr.proofs.TokenKinds.{less_is, greater_is, bracket_is, shut_is}
 use Rattle.ti_parse_expr.proofs.Law.{BeginsIn, Said, Any, then_said, after_said, as_said, done_said, want_said, last_said, refused_said, spent_said, if_said, append_nil, ended, token}
@@ -52,7 +52,7 @@ dimension_by_says : {m : ℕ} (o t : Token) (ts : List Token) (q : TokenKind) �
 dimension_by_says o t ts (k.Int z) ho h = dimension_if_says o t ts z (dim_from_int z) ho h refl
 dimension_by_says o t ts _ ho h = refused_said (arity_begins o ho)
 
-number_says : {m : ℕ} (o : Token) (l : List Token) → o.kind ≡ k.Less → Said m (λ f n. Arity (o ∷ f) n) Any l (and_then (dimension l) rest_of_arity)
+number_says : {m : ℕ} (o : Token) (l : List Token) → o.kind ≡ k.Less → Said m (λ f n. Arity (o ∷ f) n) Any l (and_then (arity_number l) rest_of_arity)
 number_says o [] ho = refused_said (arity_begins o ho)
 number_says o (t ∷ ts) ho = dimension_by_says o t ts t.kind ho refl
 

@@ -2,7 +2,7 @@
 // parser as a parameter, so that each rule is proved by itself.
 
 ghost use Rattle.std.specs.Prelude.{[], ◌∷◌, ◌++◌, ◌≡◌, ◌+◌, ◌<◌, ◌^◌, IfOk};
-ghost use Rattle.ti_syntax.specs.Trees.Views.{exp_of, exps_of, range_of, ranges_of, type_of};
+ghost use Rattle.ti_syntax.specs.Trees.Views.{exp_of, exps_of, range_of, ranges_of, type_tree_of};
 ghost use Rattle.ti_parse_expr.specs.Mirrors.Input.{Parses, ParsesAs};
 ghost use Rattle.ti_parse_expr.specs.Mirrors.Seen.{operand_of};
 ghost use Rattle.ti_parse_expr.specs.Mirrors.Exprs as spec;
@@ -412,7 +412,7 @@ impl<F: Fn(Global, &mut Tokens<'_>, usize, u8) -> Result<Expr, ParseStop>> Gramm
     #[tactic(auto, unfolding(crate::specs::Mirrors::Exprs::cast))]
     fn cast(&self, tokens: &mut Tokens<'_>, place: Place, ty: TypeName) -> Result<Expr, ParseStop>
         requires { Nests self.now.fuel (F.pre self.now.expr) (F.post self.now.expr) }
-        ensures { ParsesAs exp_of (spec.cast self.now.fuel (spec.expr self.now.fuel) place (type_of ty) tokens.old) result tokens.new }
+        ensures { ParsesAs exp_of (spec.cast self.now.fuel (spec.expr self.now.fuel) place (type_tree_of ty) tokens.old) result tokens.new }
     {
         tokens.expect(TokenKind::RightParen)?;
         let to = Box::new(self.alloc, ty)?;

@@ -1,7 +1,7 @@
 // The type parser, with one token of lookahead.
 
 ghost use Rattle.std.specs.Prelude.{[], ◌∷◌, ◌++◌, ◌≡◌, ◌≤◌};
-ghost use Rattle.ti_syntax.specs.Trees.Views.{grid_of, type_of};
+ghost use Rattle.ti_syntax.specs.Trees.Views.{grid_of, type_tree_of};
 ghost use Rattle.ti_parse_expr.specs.Mirrors.Input.{Parses, ParsesAs};
 ghost use Rattle.ti_parse_expr.specs.Mirrors.Types as spec;
 ghost use Rattle.ti_parse_expr.specs.Mirrors.Seen.{grids_of, qualifiers_of};
@@ -38,7 +38,7 @@ fn dimension_if(tokens: &mut Tokens<'_>, dim: Option<u8>) -> Result<u8, ParseSto
 }
 
 fn dimension(tokens: &mut Tokens<'_>) -> Result<u8, ParseStop>
-    ensures { Parses (spec.dimension tokens.old) result tokens.new }
+    ensures { Parses (spec.arity_number tokens.old) result tokens.new }
 {
     match tokens.peek() {
         TokenKind::Int(n) => dimension_if(tokens, dim_from_int(*n)),
@@ -165,7 +165,7 @@ pub fn field_type(
     fuel: usize,
     base: Base,
 ) -> Result<TypeName, ParseStop>
-    ensures { ParsesAs type_of (spec.field_type fuel base tokens.old) result tokens.new }
+    ensures { ParsesAs type_tree_of (spec.field_type fuel base tokens.old) result tokens.new }
 {
     let qualifiers = qualifiers(alloc, tokens, fuel)?;
     let grids = grids(alloc, tokens, fuel, 3, Vec::new(alloc))?;

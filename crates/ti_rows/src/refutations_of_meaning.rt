@@ -21,7 +21,7 @@ ghost use Rattle.ti_lang.specs.Meaning.HeapAnswers.{IsAnswered};
 ghost use Rattle.ti_lang.specs.Meaning.RegionsOf.{is_gone};
 ghost use Rattle.ti_lang.specs.Meaning.Races.{race};
 ghost use Rattle.ti_lang.specs.Meaning.Runs.{ProcAfter, CanTake};
-ghost use Rattle.ti_lang.specs.Typing.Kinds.{is_point, class_of_type};
+ghost use Rattle.ti_lang.specs.Typing.Kinds.{is_point_type, class_of_type};
 ghost use Rattle.ti_lang.specs.Typing.Expressions.{expr_type};
 ghost use Rattle.ti_lang.specs.Typing.TextTypes.{static_element_type, AreDims};
 ghost use Rattle.ti_rules.specs.Refusals.{IsFirstRefusal};
@@ -88,7 +88,7 @@ pub fn texts()
     ensures one_dimension { seen_with 1 the_point ≡ ty.Pt 2 → ⊥ }
     ensures two_dimensions_in_scope { AreDims things.a_point_in_scope (λ number. 2) the_point }
     ensures one_dimension_in_scope { AreDims things.a_point_in_scope (λ number. 1) the_point → ⊥ }
-    ensures a_point_and_a_number { is_point (seen_with 1 the_point) ≡ is_point (seen_with 1 things.a_number) → ⊥ }
+    ensures a_point_and_a_number { is_point_type (seen_with 1 the_point) ≡ is_point_type (seen_with 1 things.a_number) → ⊥ }
     ensures an_object_and_a_number { class_of_type (seen_with 1 things.an_object) ≡ class_of_type (seen_with 1 things.a_number) → ⊥ }
     ensures a_coordinate_of_a_number { static_element_type (seen_with 1 the_point) ≡ static_element_type (seen_with 1 things.a_number) → ⊥ }
 {}

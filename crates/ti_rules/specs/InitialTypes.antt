@@ -52,9 +52,9 @@ pub data Spread : Type 0 where
   Ranged : (ranges : ℕ) (ts : List ValueType) → Spread
 
 -- the types in the domain of a new grid, if all its expressions have types
-abbrev pub spread : ProgramView → ScopeContents → NumberedDims → Option Spread
-spread p s (st.Domain x) = option_map Over (operand_type p s x)
-spread p s (st.Ranges ranges) = option_map (Ranged (range_count (numbered_ranges ranges))) (bounds p s (numbered_ranges ranges))
+abbrev pub dims_spread : ProgramView → ScopeContents → NumberedDims → Option Spread
+dims_spread p s (st.Domain x) = option_map Over (operand_type p s x)
+dims_spread p s (st.Ranges ranges) = option_map (Ranged (range_count (numbered_ranges ranges))) (bounds p s (numbered_ranges ranges))
 
 -- the type of the domain; ranges are typed as in a literal
 abbrev pub spread_type : Spread → Option ValueType
@@ -77,5 +77,5 @@ abbrev pub initial_type : ProgramView → ScopeContents → NumberedInit → Opt
 initial_type p s (st.Value x) = right_side_type p s x
 initial_type p s (st.NewRegion at) = Some Region
 initial_type p s (st.NewObject at region class) = option_and_then (object_type class) (region_type p s region)
-initial_type p s (st.NewGrid at region element dims_at dims) = and_then_both (region_type p s region) (spread p s dims) (new_grid_type element.type)
+initial_type p s (st.NewGrid at region element dims_at dims) = and_then_both (region_type p s region) (dims_spread p s dims) (new_grid_type element.type)
 initial_type p s (st.Broadcast at x root) = and_then_both (operand_type p s x) (operand_type p s root) broadcast_type

@@ -7,7 +7,7 @@ use Rattle.ti_lang.specs.Program.Expressions.{NumberedExp, NumberedExps, numbere
 use Rattle.ti_lang.specs.Program.Expressions as x
 use Rattle.ti_lang.specs.Program.Classes.{ProgramView}
 use Rattle.ti_lang.specs.Program.Views.{expression_of, bound_of}
-use Rattle.ti_lang.specs.Typing.Kinds.{is_point}
+use Rattle.ti_lang.specs.Typing.Kinds.{is_point_type}
 use Rattle.ti_lang.specs.Typing.TextTypes.{syntactic_type}
 use Rattle.ti_lang.specs.Typing.Called.{member_called}
 use Rattle.ti_lang.specs.Typing.Singleness.{tells_of_domain, is_single_part, are_single, are_single_ranges}
@@ -27,7 +27,7 @@ three t b c t' b' c' r is is_t is_b is_c = is ∙ ap (λ z. z && (b && c)) is_t 
 
 -- an index
 pub index_single : (p : ProgramView) (this : Option ℕ) (singles : ℕ → Bool) (at : Place) (a : NumberedExp) (xs : NumberedExps)
-    (t b c r : Bool) → r ≡ t && (b && c) → t ≡ is_point (syntactic_type p this a)
+    (t b c r : Bool) → r ≡ t && (b && c) → t ≡ is_point_type (syntactic_type p this a)
     → b ≡ is_single_part p this singles a → c ≡ are_single p this singles xs → r ≡ is_single_part p this singles (x.Index at a xs)
 index_single p this singles at a xs t b c r is is_t is_b is_c = three t b c _ _ _ r is is_t is_b is_c
 

@@ -4,7 +4,7 @@ ghost use Rattle.std.specs.Option.{option_map};
 ghost use Rattle.ti_lang.specs.Program.Expressions.{numbered_exps, numbered_ranges};
 ghost use Rattle.ti_lang.specs.Program.Scope.{contents_of};
 ghost use Rattle.ti_lang.specs.Program.Views.{program_of, expression_of, bound_of, variable_of, initial_of};
-ghost use Rattle.ti_lang.specs.Typing.Kinds.{is_point};
+ghost use Rattle.ti_lang.specs.Typing.Kinds.{is_point_type};
 ghost use Rattle.ti_lang.specs.Typing.TyRef.{ty_view, built_in_of};
 ghost use Rattle.ti_lang.specs.Typing.Singleness.{declared_single, tells_of_domain, is_single_part, are_single, is_single_range, are_single_ranges, is_single, is_single_sent, is_single_initial};
 ghost use Rattle.ti_lang.specs.Typing.Effects.{is_single_target};
@@ -54,7 +54,7 @@ pub fn is_single_target(expr: &Expr) -> bool
 }
 
 fn is_point(ty: TyRef) -> bool
-    ensures { result ≡ is_point (ty_view ty.entry) }
+    ensures { result ≡ is_point_type (ty_view ty.entry) }
 {
     matches!(ty, TyRef::Pt(_))
 }

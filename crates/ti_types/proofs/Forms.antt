@@ -9,7 +9,7 @@ use Rattle.ti_lang.specs.Program.Scope.{ScopeContents}
 use Rattle.ti_syntax.specs.declared.tree.exprs.BinaryOperator.{BinaryOperator}
 use Rattle.ti_lang.specs.Typing.Kinds.{where_true}
 use Rattle.ti_lang.specs.Typing.Operators.{binary_type}
-use Rattle.ti_lang.specs.Typing.Expressions.{ExprTyping, plain, operand, and_then_both, all_ints, point_literal, rect_literal, range_count, index_type, select_type, called, member, type_result, operands, bounds}
+use Rattle.ti_lang.specs.Typing.Expressions.{ExprTyping, plain, operand, and_then_both, all_ints, point_literal, rect_literal, range_count, index_type, select_type, called, member_typing, type_result, operands, bounds}
 use Rattle.ti_rules.specs.declared.refusal.Refusal.{Refusal}
 use Rattle.ti_rules.specs.Mirrors.First.{earlier_of, earliest}
 use Rattle.ti_lang.specs.Typing.Alike.{erase_dims}
@@ -163,7 +163,7 @@ member_form p s at e name xs place m t a count own j is_t is_place is_m are is_c
   is_typed ∙ is_known ∙ ap (summary_member p (operand (typed_of t)) name m count) are.2
       ∙ ap (λ n. summary_member p (operand (typed_of t)) name n count (option_map (summary (places_of xs) (parameter_types n)) (operands p s xs))) is_m
       ∙ behind_is p (places_of xs) (operand (typed_of t)) name (operands p s xs) count is_count (count_places p s xs)
-      ∙ ap (λ k. member p (operand k) name (operands p s xs)) is_t.0,
+      ∙ ap (λ k. member_typing p (operand k) name (operands p s xs)) is_t.0,
   node p s (x.Member at e name xs) (parts e ++ parts_of_all xs) (misplaced p s e ++ all_misplaced p s xs)
       (both_judged (operand (type_result p s e)) (operands p s xs) (λ u ts. member_refusals p at (places_of xs) name u ts))
       (earlier_of t.first a.inner) (earlier_of (earliest (misplaced_at place (typed_of t))) a.misplaced) own.first j.first refl refl

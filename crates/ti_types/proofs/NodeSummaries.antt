@@ -9,13 +9,13 @@ use Rattle.ti_lang.specs.Program.Scope.{ScopeContents}
 use Rattle.ti_lang.specs.Typing.Kinds.{where_true, read_through}
 use Rattle.ti_lang.specs.Typing.BuiltIn as b
 use Rattle.ti_lang.specs.Typing.BuiltIn.{BuiltIn, built_in, member_type}
-use Rattle.ti_lang.specs.Typing.Expressions.{ExprTyping, plain, and_then_both, append_both, is_int, all_ints, range_of_points, rect_literal, range_count, index_type, bound_types, bounds, member}
+use Rattle.ti_lang.specs.Typing.Expressions.{ExprTyping, plain, and_then_both, append_both, is_int, all_ints, range_of_points, rect_literal, range_count, index_type, bound_types, bounds, member_typing}
 use Rattle.ti_rules.specs.declared.rule.Rule.TheVariants.{Y1, Y4}
 use Rattle.ti_rules.specs.declared.refusal.Refusal.{Refusal}
 use Rattle.ti_rules.specs.Mirrors.First.{earliest}
 use Rattle.ti_lang.specs.Typing.Alike.{erase_dims}
 use Rattle.ti_rules.specs.Broken.Refused.{refusal_at, judged, both_judged, operand_refusal}
-use Rattle.ti_rules.specs.Broken.Calls.{has_member, arity, argument_refusals, built_in_refusals, member_refusals}
+use Rattle.ti_rules.specs.Broken.Calls.{has_member, argument_count, argument_refusals, built_in_refusals, member_refusals}
 use Rattle.ti_rules.specs.Broken.Expressions.{other_indices}
 use Rattle.ti_types.specs.Mirrors.Arguments.{head_type, second_type, summary, parameter_types}
 use Rattle.ti_types.specs.Mirrors.BuiltIn.{summary_member_type, other_refusals, one_refusals, arguments_by, summary_argument_refusals, summary_built_in_refusals}
@@ -111,7 +111,7 @@ one_by at m t (u ∷ []) is = (u, refl, refl)
 one_by at m t (u ∷ v ∷ ts) is = absurd (omega (arith, is))
 
 arguments_are : (at : Place) (places : List Place) (us : List ValueType) (m : BuiltIn) (t : ValueType) (ts : List ValueType) → length ts
-    ≡ arity m → summary_argument_refusals at m t (summary places us ts) ≡ argument_refusals at m t ts
+    ≡ argument_count m → summary_argument_refusals at m t (summary places us ts) ≡ argument_refusals at m t ts
 arguments_are at places us b.Size t ts is = none_by at places us b.Size t ts is
 arguments_are at places us b.Min t ts is = none_by at places us b.Min t ts is
 arguments_are at places us b.Max t ts is = none_by at places us b.Max t ts is
@@ -135,10 +135,10 @@ pub built_in_is : (at : Place) (places : List Place) (us : List ValueType) (m : 
     → summary_built_in_refusals at m t (length ts) (summary places us ts) ≡ built_in_refusals at m t ts
 built_in_is at places us None t ts = refl
 built_in_is at places us (Some m) t ts =
-    else_same (has_member m t) (refusal_at Y1 at) (if not (length ts == arity m) then refusal_at Y4 at else summary_argument_refusals at m t
-    (summary places us ts)) (if not (length ts == arity m) then refusal_at Y4 at else argument_refusals at m t ts)
-    (λ has. else_same (length ts == arity m) (refusal_at Y4 at) (summary_argument_refusals at m t (summary places us ts)) (argument_refusals at m t ts)
-    (λ same. arguments_are at places us m t ts ((Decides-eqb (length ts) (arity m)).0 same)))
+    else_same (has_member m t) (refusal_at Y1 at) (if not (length ts == argument_count m) then refusal_at Y4 at else summary_argument_refusals at m t
+    (summary places us ts)) (if not (length ts == argument_count m) then refusal_at Y4 at else argument_refusals at m t ts)
+    (λ has. else_same (length ts == argument_count m) (refusal_at Y4 at) (summary_argument_refusals at m t (summary places us ts)) (argument_refusals at m t ts)
+    (λ same. arguments_are at places us m t ts ((Decides-eqb (length ts) (argument_count m)).0 same)))
 
 -- ---- behind something
 
@@ -153,7 +153,7 @@ plain_is a c e = ap (λ o. let k : ExprTyping = record { type = o; is_call = fal
 -- what is known of a member
 pub behind_is : (p : ProgramView) (places : List Place) (t : Option ValueType) (name : ℕ) (o : Option (List ValueType)) (count : ℕ)
     → count ≡ length places → ((ts : List ValueType) → o ≡ Some ts → length places ≡ length ts)
-    → summary_member p t name (member_method p t name) count (option_map (summary places (parameter_types (member_method p t name))) o) ≡ member p t name o
+    → summary_member p t name (member_method p t name) count (option_map (summary places (parameter_types (member_method p t name))) o) ≡ member_typing p t name o
 behind_is p places None name o count is same = refl
 behind_is p places (Some (Class c local)) name None count is same = refl
 behind_is p places (Some (Class c local)) name (Some ts) count is same = called_is places (member_method p (Some (Class c local)) name) (Some ts) count is same

@@ -10,7 +10,7 @@ use Rattle.ti_lang.specs.Typing.Alike.{erase_dims}
 use Rattle.ti_lang.specs.Typing.Fits.{fits}
 use Rattle.ti_lang.specs.Typing.BuiltIn.{BuiltIn, Size, Min, Max, Contains, Domain, Restrict, Translate, Slice, Copy, Exchange, Delete, built_in, same_grids, can_copy, can_exchange, member_type}
 use Rattle.ti_lang.specs.Typing.Declared.{instance_method, result_type, types_of}
-use Rattle.ti_lang.specs.Typing.Expressions.{ExprTyping, operand, and_then_both, append_both, one, all_fit, takes, call_type, called, member_given, member}
+use Rattle.ti_lang.specs.Typing.Expressions.{ExprTyping, operand, and_then_both, append_both, one, all_fit, takes, call_type, called, member_given, member_typing}
 use Rattle.ti_rules.specs.declared.rule.Rule.TheVariants.{Y4, Y5, Y6, Q2, Q3}
 use Rattle.ti_rules.specs.declared.refusal.Refusal.{Refusal}
 use Rattle.ti_rules.specs.Refusals.{refused_if}
@@ -195,16 +195,16 @@ behind_none : (p : ProgramView) (at : Place) (places : List Place) (name : ℕ) 
 behind_none p at places name (Class c local) ts there = instance_none at places (instance_method p c name) ts there
 behind_none p at places name t ts there = given_none at (built_in p name) t ts there
 
-pub receiver_there : (p : ProgramView) (name : ℕ) (o : Option ValueType) (q : Option (List ValueType)) → IsThere (member p o name q).type → IsThere o
+pub receiver_there : (p : ProgramView) (name : ℕ) (o : Option ValueType) (q : Option (List ValueType)) → IsThere (member_typing p o name q).type → IsThere o
 receiver_there p name None q there = cc there.1
 receiver_there p name (Some t) q there = (t, refl)
 
-pub behind_there : (p : ProgramView) (name : ℕ) (o : Option ValueType) (q : Option (List ValueType)) → IsThere (member p o name q).type → IsThere q
+pub behind_there : (p : ProgramView) (name : ℕ) (o : Option ValueType) (q : Option (List ValueType)) → IsThere (member_typing p o name q).type → IsThere q
 behind_there p name None q there = cc there.1
 behind_there p name (Some t) None there = cc there.1
 behind_there p name (Some t) (Some ts) there = (ts, refl)
 
-pub member_none : (p : ProgramView) (at : Place) (places : List Place) (name : ℕ) (o : Option ValueType) (q : Option (List ValueType)) → IsThere (member p o name q).type
+pub member_none : (p : ProgramView) (at : Place) (places : List Place) (name : ℕ) (o : Option ValueType) (q : Option (List ValueType)) → IsThere (member_typing p o name q).type
     → both_judged o q (λ t ts. member_refusals p at places name t ts) ≡ []
 member_none p at places name None q there = refl
 member_none p at places name (Some t) None there = refl

@@ -4,7 +4,7 @@ ghost use Rattle.std.specs.Option.{option_map, option_and_then};
 ghost use Rattle.ti_lang.specs.Program.Views.{program_of};
 ghost use Rattle.ti_lang.specs.Typing.BuiltIn.{same_grids, has_local_elements, can_copy, can_exchange, member_type, Contains, Restrict, Translate};
 ghost use Rattle.ti_rules.specs.Mirrors.First.{earliest};
-ghost use Rattle.ti_rules.specs.Broken.Calls.{has_member, arity, copy_refusals, exchange_refusals, slice_refusals, takes_local};
+ghost use Rattle.ti_rules.specs.Broken.Calls.{has_member, argument_count, copy_refusals, exchange_refusals, slice_refusals, takes_local};
 ghost use Rattle.ti_lang.specs.Typing.TyRef.{ty_view, built_in_of};
 ghost use Rattle.ti_types.specs.Mirrors.Arguments.{summary_of};
 ghost use Rattle.ti_types.specs.Mirrors.BuiltIn.{arguments_by, summary_member_type, other_refusals, one_refusals, summary_argument_refusals, summary_built_in_refusals};
@@ -41,7 +41,7 @@ fn has_member(member: BuiltIn, ty: TyRef) -> bool
 }
 
 fn arity(member: BuiltIn) -> usize
-    ensures { result ≡ arity (built_in_of member) }
+    ensures { result ≡ argument_count (built_in_of member) }
 {
     match member {
         BuiltIn::Contains

@@ -16,7 +16,7 @@ use Rattle.ti_lang.specs.Program.Expressions as e
 use Rattle.ti_base.specs.PointSets.{union, minus, meet}
 use Rattle.ti_lang.specs.Program.Scope.{this_of}
 use Rattle.ti_lang.specs.Typing.BuiltIn.{BuiltIn, Size, Min, Max, Contains}
-use Rattle.ti_lang.specs.Typing.Kinds.{is_local, is_point}
+use Rattle.ti_lang.specs.Typing.Kinds.{is_local, is_point_type}
 use Rattle.ti_lang.specs.Typing.Called.{member_called}
 use Rattle.ti_lang.specs.Typing.Singleness.{declared_single, tells_of_domain, is_single_part, are_single, is_single_range, are_single_ranges}
 use Rattle.ti_lang.specs.Meaning.Held.{Held, Plain, Dm, point_of}
@@ -26,7 +26,7 @@ use Rattle.ti_lang.specs.Meaning.Operands.{Operands, Wholes, Points, Rects, Doma
 use Rattle.ti_lang.specs.Meaning.Conversions.{to_domain, converted, of_domains}
 use Rattle.ti_lang.specs.Meaning.Operators.{add_values, subtract_values, multiply_values, divide_values, equal, apply_binary, short_circuit}
 use Rattle.ti_lang.specs.Meaning.CellRefs.{indexed}
-use Rattle.ti_lang.specs.Meaning.MemberForms.{domain_size, member}
+use Rattle.ti_lang.specs.Meaning.MemberForms.{domain_size, member_value}
 use Rattle.ti_lang.specs.Meaning.Scoping.{Env, value_by, type_of}
 use Rattle.ti_lang.specs.Meaning.Evaluation.{kept_local, unless_settled, with_right, eval, eval_all, eval_numbers, eval_range, eval_ranges}
 use Rattle.ti_lang.proofs.Lemmas.{Giving}
@@ -144,7 +144,7 @@ sized_same at (Plain _) rest = refl
 sized_same at (Dm dim points) rest = refl
 
 member_same : (at : Place) (type : ValueType) (o : Option BuiltIn) (through : ValueType) (h : Held) (hs : List Held) (rest : List Answer) → tells_of_domain o ≡ true
-    → Same (member at type o through h hs) (member at type o through h hs) rest
+    → Same (member_value at type o through h hs) (member_value at type o through h hs) rest
 member_same at type (Some Size) through h hs rest k = sized_same at h rest
 member_same at type (Some Min) through h hs rest k = guarded_same _ _ at _ rest
 member_same at type (Some Max) through h hs rest k = guarded_same _ _ at _ rest
@@ -195,10 +195,10 @@ mutual
       same_then (converted at to.type h) (converted at to.type h) _ _ r (converted_same at to.type h r) (λ j s.
       local_same env.number at (is_local to.type) true to.type j s refl (and_left _ _ k)))
   single_same env g (e.Index at a xs) rest k =
-      let i = and_right (is_point (type_of env a)) _ k in
+      let i = and_right (is_point_type (type_of env a)) _ k in
       same_then (eval env a) (eval (env_part env) a) _ _ rest (single_same env g a rest (and_left _ _ i)) (λ h r.
       same_then (eval_numbers env xs) (eval_numbers (env_part env) xs) _ _ r (numbers_same env g xs r (and_right (is_single_part env.program (this_of env.method) g a) _ i)) (λ ns s.
-      coordinate_same (is_point (type_of env a)) at _ (type_of env a) h ns s (and_left _ _ k)))
+      coordinate_same (is_point_type (type_of env a)) at _ (type_of env a) h ns s (and_left _ _ k)))
   single_same env g (e.Member at a name args) rest k =
       let o = member_called env.program (this_of env.method) a name in
       let i = and_right (tells_of_domain o) _ k in

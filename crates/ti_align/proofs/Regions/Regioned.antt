@@ -17,7 +17,7 @@ use Rattle.ti_lang.specs.Typing.Fits.{fits, casts}
 use Rattle.ti_lang.specs.Typing.Operators.{row_of, binary_type, unary_type}
 use Rattle.ti_lang.specs.Typing.BuiltIn.{BuiltIn, Size, Min, Max, Contains, Domain, Restrict, Translate, Slice, Copy, Exchange, Delete, built_in, member_type}
 use Rattle.ti_lang.specs.Typing.Declared.{declared_type, field_type, named_field_type, result_type, types_of}
-use Rattle.ti_lang.specs.Typing.Expressions.{plain, operand, one, and_then_both, all_ints, point_literal, rect_literal, range_count, index_type, select_type, all_fit, takes, called, member, operands, bounds, operand_type}
+use Rattle.ti_lang.specs.Typing.Expressions.{plain, operand, one, and_then_both, all_ints, point_literal, rect_literal, range_count, index_type, select_type, all_fit, takes, called, member_typing, operands, bounds, operand_type}
 use Rattle.ti_lang.specs.Typing.Called.{called_method, method_behind, member_called}
 use Rattle.ti_lang.specs.Typing.TextTypes.{syntactic_type}
 use Rattle.ti_lang.specs.Meaning.Calls.{parameters_from, parameters_of}
@@ -247,7 +247,7 @@ module _ (p : ProgramView) (fields : FieldsMeant p) (m : NumberedMethod) (s : Sc
         nothing (Some ts) z = none_some u z
     whole_operand (e.Member at a name args) u f v c = by (operand_type p s a) refl f.0
       where
-        of : (y : ValueType) (q : Option (List ValueType)) → Alike y (syntactic_type p (this_of m) a) → (member p (Some y) name q).type ≡ Some u → operand (member p (Some y) name q) ≡ Some u
+        of : (y : ValueType) (q : Option (List ValueType)) → Alike y (syntactic_type p (this_of m) a) → (member_typing p (Some y) name q).type ≡ Some u → operand (member_typing p (Some y) name q) ≡ Some u
         of y None g z = absurd (none_some u z)
         of (t.Class d l) (Some ts) g z = absurd (none_some u (sym (ap (λ o. (called o (Some ts)).type) (ap (λ x. method_behind p x name) (sym (g.0 refl)) ∙ c)) ∙ z))
         of t.Int (Some ts) g z = some_there _ u z v
@@ -261,9 +261,9 @@ module _ (p : ProgramView) (fields : FieldsMeant p) (m : NumberedMethod) (s : Sc
         of t.Null (Some ts) g z = some_there _ u z v
         of t.Void (Some ts) g z = some_there _ u z v
 
-        by : (o : Option ValueType) → operand_type p s a ≡ o → (member p o name (operands p s args)).type ≡ Some u → operand (member p (operand_type p s a) name (operands p s args)) ≡ Some u
+        by : (o : Option ValueType) → operand_type p s a ≡ o → (member_typing p o name (operands p s args)).type ≡ Some u → operand (member_typing p (operand_type p s a) name (operands p s args)) ≡ Some u
         by None i z = absurd (none_some u z)
-        by (Some y) i z = ap (λ o. operand (member p o name (operands p s args))) i ∙ of y (operands p s args) (in_text p m s around.this points a f.1.0 y i) z
+        by (Some y) i z = ap (λ o. operand (member_typing p o name (operands p s args))) i ∙ of y (operands p s args) (in_text p m s around.this points a f.1.0 y i) z
     whole_operand _ u f v c = some_there _ u f.0 v
 
     -- ---- right sides
@@ -318,7 +318,7 @@ module _ (p : ProgramView) (fields : FieldsMeant p) (m : NumberedMethod) (s : Sc
         is_it : (is_object (syntactic_type p (this_of m) a) ≡ false) × (built_in p name ≡ Some Delete)
         is_it = built (is_object (syntactic_type p (this_of m) a)) c
 
-        of : (y : ValueType) (q : Option (List ValueType)) → Alike y (syntactic_type p (this_of m) a) → (member p (Some y) name q).type ≡ Some u → y ≡ t.Region
+        of : (y : ValueType) (q : Option (List ValueType)) → Alike y (syntactic_type p (this_of m) a) → (member_typing p (Some y) name q).type ≡ Some u → y ≡ t.Region
         of y None g z = absurd (none_some u z)
         of (t.Class d l) (Some ts) g z = absurd (true_false (sym (ap is_object (g.0 refl)) ∙ is_it.0))
         of t.Int (Some ts) g z = given t.Int ts is_it.1 z
@@ -332,7 +332,7 @@ module _ (p : ProgramView) (fields : FieldsMeant p) (m : NumberedMethod) (s : Sc
         of t.Null (Some ts) g z = given t.Null ts is_it.1 z
         of t.Void (Some ts) g z = given t.Void ts is_it.1 z
 
-        by : (o : Option ValueType) → operand_type p s a ≡ o → (member p o name (operands p s args)).type ≡ Some u → is_region_exp a ≡ true
+        by : (o : Option ValueType) → operand_type p s a ≡ o → (member_typing p o name (operands p s args)).type ≡ Some u → is_region_exp a ≡ true
         by None i z = absurd (none_some u z)
         by (Some y) i z = region_exp a k.0 (i ∙ ap Some (of y (operands p s args) (in_text p m s around.this points a f.1.0 y i) z))
 

@@ -33,7 +33,7 @@ use Rattle.ti_lang.specs.Program.Expressions.{NumberedExp, NumberedExps, Numbere
 use Rattle.ti_lang.specs.Program.Expressions as e
 use Rattle.ti_lang.specs.Program.Classes.{NumberedField, ProgramView}
 use Rattle.ti_lang.specs.Program.Scope.{ScopeContents, this_of}
-use Rattle.ti_lang.specs.Typing.Kinds.{domain_dim, same_type, is_whole, is_void, is_point, is_object, is_local, as_global, read_through, dim_of_type, class_of_type, where_true}
+use Rattle.ti_lang.specs.Typing.Kinds.{domain_dim, same_type, is_whole, is_void, is_point_type, is_object, is_local, as_global, read_through, dim_of_type, class_of_type, where_true}
 use Rattle.ti_lang.specs.Typing.Fits.{casts}
 use Rattle.ti_lang.specs.Typing.Operators.{wider, whole_type, truth_type, point_type, rect_type, same_dim, domain_type, unary_type, binary_type}
 use Rattle.ti_lang.specs.Typing.BuiltIn.{BuiltIn, Size, Min, Max, Contains, Domain, Restrict, Translate, Slice, Copy, Exchange, Delete, built_in, member_type}
@@ -47,7 +47,7 @@ use Rattle.ti_lang.specs.Meaning.Comp.{ValueOf, NewThing, Reference, request_thr
 use Rattle.ti_lang.specs.Meaning.Literals.{coordinates_of, numbers_in, point_of_numbers}
 use Rattle.ti_lang.specs.Meaning.Conversions.{most_points, converted}
 use Rattle.ti_lang.specs.Meaning.CellRefs.{Field, Element, fetched, domain_asked, domain_of, viewed, indexed}
-use Rattle.ti_lang.specs.Meaning.MemberForms.{greatest_size, domain_size, extreme, member}
+use Rattle.ti_lang.specs.Meaning.MemberForms.{greatest_size, domain_size, extreme, member_value}
 use Rattle.ti_lang.specs.Meaning.Answers.{IsPointOf, IsRectOf}
 use Rattle.ti_lang.specs.Meaning.Scoping.{Env, type_of, field_selected}
 use Rattle.ti_lang.specs.Meaning.Evaluation.{is_own, eval, eval_all, eval_numbers, eval_range, eval_ranges}
@@ -456,7 +456,7 @@ module _ (p : ProgramView) (w : HeapTyping) where
 
   pub member_fine : (at : Place) (wanted through : ValueType) (b : BuiltIn) (type r : ValueType) (ts : List ValueType) (h : Held)
       (hs : List Held) → member_type b type ts ≡ Some r → is_void r ≡ false → Seen type through → IsOf w type h → AllOfTypes w ts hs
-      → wanted ≡ built_in_type (Some b) through → Sound p (λ u k. IsOf u r k) w (member at wanted (Some b) through h hs)
+      → wanted ≡ built_in_type (Some b) through → Sound p (λ u k. IsOf u r k) w (member_value at wanted (Some b) through h hs)
   member_fine at wanted through Size (t.Rc n) r [] h hs e z y k a same = subst (λ q. Sound p (λ u k. IsOf u q k) w (domain_size at h)) (some_same t.Int r e) (sized_fine at h n (inl k))
   member_fine at wanted through Size (t.Dm n) r [] h hs e z y k a same = subst (λ q. Sound p (λ u k. IsOf u q k) w (domain_size at h)) (some_same t.Int r e) (sized_fine at h n (inr k))
   member_fine at wanted through Min (t.Rc n) r [] h hs e z y k a same =
@@ -464,9 +464,9 @@ module _ (p : ProgramView) (w : HeapTyping) where
   member_fine at wanted through Max (t.Rc n) r [] h hs e z y k a same =
       subst (λ q. Sound p (λ u k. IsOf u q k) w (extreme at h (rect_of h).hi)) (some_same (t.Pt n) r e) (sound_guarded p _ w _ _ at _ ((rect_of h).hi, refl, (rect_is n h k).high))
   member_fine at wanted through Contains (t.Rc n) r (t.Pt m ∷ []) h hs e z y k a same =
-      subst (λ q. Sound p (λ u k. IsOf u q k) w (member at wanted (Some Contains) through h hs)) (where_some (n == m) t.Boolean r e).1 (sound_value p _ w _ (_, refl))
+      subst (λ q. Sound p (λ u k. IsOf u q k) w (member_value at wanted (Some Contains) through h hs)) (where_some (n == m) t.Boolean r e).1 (sound_value p _ w _ (_, refl))
   member_fine at wanted through Contains (t.Dm n) r (t.Pt m ∷ []) h hs e z y k a same =
-      subst (λ q. Sound p (λ u k. IsOf u q k) w (member at wanted (Some Contains) through h hs)) (where_some (n == m) t.Boolean r e).1 (sound_value p _ w _ (_, refl))
+      subst (λ q. Sound p (λ u k. IsOf u q k) w (member_value at wanted (Some Contains) through h hs)) (where_some (n == m) t.Boolean r e).1 (sound_value p _ w _ (_, refl))
   member_fine at wanted through Domain (t.Grid x n l) r [] h hs e z y k a same =
       subst (λ q. Sound p (λ u k. IsOf u q k) w (domain_of at through h)) (some_same (t.Rc n) r e)
       (subst (λ q. Sound p (λ u k. IsOf u (t.Rc n) k) w (domain_of at q h)) (sym y)
@@ -483,7 +483,7 @@ module _ (p : ProgramView) (w : HeapTyping) where
       (view_seen at wanted (how.Translate (point_of c)) through h x n l y k (subst (λ d. IsPointOf d (point_of c)) (sym (eqb-true n m q.0)) (point_is m c a.0)) (x, n, l, same ∙ y))
   member_fine at wanted through Slice (t.Grid x n l) r (t.Int ∷ t.Int ∷ []) h hs e z y k a same =
       let q = where_some (nat_lt 1 n) (t.Grid x (n - 1) l) r e in
-      subst (λ o. Sound p (λ u k. IsOf u o k) w (member at wanted (Some Slice) through h hs)) q.1
+      subst (λ o. Sound p (λ u k. IsOf u o k) w (member_value at wanted (Some Slice) through h hs)) q.1
       (view_seen at wanted (how.Slice (int_of (slice_index_or hs 0 no_value)) (int_of (slice_index_or hs 1 no_value))) through h x n l y k
       (let two = int_args hs a in (ltb-true 1 n q.0, two.0, two.1)) (x, n - 1, l, same ∙ ap slice_type y))
   member_fine at wanted through Restrict (t.Grid x n l) r (t.Rc m ∷ []) h [] e z y k a same = absurd a
@@ -518,10 +518,10 @@ env_stays uses s u w env g f = record {
 -- an index: a coordinate, or an element of a grid
 indexed_fine : (p : ProgramView) (w : HeapTyping) (at : Place) (wanted u type r : ValueType) (ts : List ValueType) (h : Held) (zs : List ℤ)
     → index_type type ts ≡ Some r → Seen type u → DimsFine type → IsOf w type h → Numbers (counts ts) zs → wanted ≡ static_element_type u
-    → Sound p (λ x k. IsOf x r k) w (indexed (is_point u) at wanted u h zs) × DimsFine r × Seen r (static_element_type u)
+    → Sound p (λ x k. IsOf x r k) w (indexed (is_point_type u) at wanted u h zs) × DimsFine r × Seen r (static_element_type u)
 indexed_fine p w at wanted u (t.Pt n) r (t.Int ∷ []) h zs e i d k l same =
-    subst (λ q. Sound p (λ x k. IsOf x q k) w (indexed (is_point u) at wanted u h zs) × DimsFine q × Seen q (static_element_type u)) (some_same t.Int r e) (
-      subst (λ b. Sound p (λ x k. IsOf x t.Int k) w (indexed b at wanted u h zs)) (sym (ap is_point i.1))
+    subst (λ q. Sound p (λ x k. IsOf x q k) w (indexed (is_point_type u) at wanted u h zs) × DimsFine q × Seen q (static_element_type u)) (some_same t.Int r e) (
+      subst (λ b. Sound p (λ x k. IsOf x t.Int k) w (indexed b at wanted u h zs)) (sym (ap is_point_type i.1))
           (sound_then p (λ x (y : ℤ). Fits w32 y) _ w (found_or fault.Bounds at
           (if int_le (pos 1) (slice_index_or zs 0 (pos 0)) then slice_get (coordinates_of (point_of h))
           (pred (natural (slice_index_or zs 0 (pos 0)))) else None)) _
@@ -547,10 +547,10 @@ indexed_fine p w at wanted u (t.Grid element n l) r ts h zs e i d k c same = by 
       q.1,
     )
 
-    by : (counts ts ≡ n) × (read_through l element ≡ r) → Sound p (λ x k. IsOf x r k) w (indexed (is_point u) at wanted u h zs) × DimsFine r × Seen r (static_element_type u)
+    by : (counts ts ≡ n) × (read_through l element ≡ r) → Sound p (λ x k. IsOf x r k) w (indexed (is_point_type u) at wanted u h zs) × DimsFine r × Seen r (static_element_type u)
     by q =
-        subst (λ z. Sound p (λ x k. IsOf x z k) w (indexed (is_point u) at wanted u h zs) × DimsFine z × Seen z (static_element_type u)) q.1 (
-          subst (λ b. Sound p (λ x k. IsOf x (read_through l element) k) w (indexed b at wanted u h zs)) (sym (ap is_point i))
+        subst (λ z. Sound p (λ x k. IsOf x z k) w (indexed (is_point_type u) at wanted u h zs) × DimsFine z × Seen z (static_element_type u)) q.1 (
+          subst (λ b. Sound p (λ x k. IsOf x (read_through l element) k) w (indexed b at wanted u h zs)) (sym (ap is_point_type i))
               (subst (λ o. Sound p (λ x k. IsOf x (read_through l element) k) w (indexed false at wanted o h zs)) (sym i)
               (element_fine p w at wanted (t.Grid element n l) h (point_of_numbers zs) element n l refl (grid_in w element n l h k)
               (own_of w (t.Grid element n l) h k) (numbers_point zs n (c.0 ∙ q.0) d.0 c.1)
@@ -727,7 +727,7 @@ MemberThere p o q name r =
     (type : ValueType) × (ts : List ValueType) × (o ≡ Some type) × (q ≡ Some ts) × (b : BuiltIn) × (built_in p name ≡ Some b)
     × (member_type b type ts ≡ Some r) × (is_object type ≡ false) × (is_void r ≡ false)
 
-pub member_there : (p : ProgramView) (o : Option ValueType) (q : Option (List ValueType)) (name : ℕ) (r : ValueType) → operand (typing.member p o name q) ≡ Some r → MemberThere p o q name r
+pub member_there : (p : ProgramView) (o : Option ValueType) (q : Option (List ValueType)) (name : ℕ) (r : ValueType) → operand (typing.member_typing p o name q) ≡ Some r → MemberThere p o q name r
 member_there p None q name r h = absurd (none_some r h)
 member_there p (Some type) None name r h = absurd (none_some r h)
 member_there p (Some type) (Some ts) name r h = by type h
@@ -951,7 +951,7 @@ module _ (uses : VariableUse → Bool) (s : ScopeContents) where
         record {
           sound = sound_then p (λ u h. IsOf u q.0 h) _ w (eval env a) _ r.sound (λ u i h y.
               sound_then p (λ u hs. AllOfTypes u q.1 hs) _ u (eval_all env args) _ (all_fine u env (env_stays uses s w u env i f) g args k.1 q.1 q.3) (λ x j hs o.
-              subst (λ b. Sound p (λ u h. IsOf u type h) x (member at (type_of env (e.Member at a name args)) b (type_of env a) h hs)) (sym is)
+              subst (λ b. Sound p (λ u h. IsOf u type h) x (member_value at (type_of env (e.Member at a name args)) b (type_of env a) h hs)) (sym is)
               (member_fine p x at (type_of env (e.Member at a name args)) (type_of env a) q.4 q.0 type q.1 h hs q.6 q.8 r.seen (of_stays u x q.0 h j y) o seen)));
           dims = (member_static q.4 q.0 (type_of env a) type q.1 q.6 q.8 r.dims r.seen).0;
           seen = subst (λ y. Seen type y) (sym seen) (member_static q.4 q.0 (type_of env a) type q.1 q.6 q.8 r.dims r.seen).1;

@@ -172,7 +172,7 @@ module _ (s : ScopeContents) (env : Env) where
             ap (option_map (call_of at (Some a) args)) (behind_none p (type_of env a) name (not_object u (type_of env a) n seen)),
             k,
             λ v.
-                ap₂ (λ x y. operand (typing.member p x name y)) i j ∙ ap
+                ap₂ (λ x y. operand (typing.member_typing p x name y)) i j ∙ ap
                 (λ b. if b then None else only_if (λ u. not (is_void u)) (member_given p u name ts).type) c
                 ∙ only_there (member_given p u name ts).type type z v,
           )
@@ -209,7 +209,7 @@ module _ (s : ScopeContents) (env : Env) where
       given t.Void ts i j z = other t.Void ts i j refl refl z
 
       by : (o : Option ValueType) → operand_type p s a ≡ o → (q : Option (List ValueType)) → operands p s args ≡ q
-          → (typing.member p o name q).type ≡ Some type → CalledOr w (e.Member at a name args) type
+          → (typing.member_typing p o name q).type ≡ Some type → CalledOr w (e.Member at a name args) type
       by None i q j z = absurd (none_some type z)
       by (Some u) i None j z = absurd (none_some type z)
       by (Some u) i (Some ts) j z = given u ts i j z

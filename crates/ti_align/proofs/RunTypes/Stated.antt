@@ -313,7 +313,7 @@ module _ (s : ScopeContents) (env : Env) where
           (sym (ap (λ b. if b then None else built_in p name) (not_object x (type_of env a) n seen) ∙ q.1))
           (done q.0 x ts q.2 i j)
 
-      by : (x : Option ValueType) → operand_type p s a ≡ x → (y : Option (List ValueType)) → operands p s args ≡ y → (typing.member p x name y).type ≡ Some u
+      by : (x : Option ValueType) → operand_type p s a ≡ x → (y : Option (List ValueType)) → operands p s args ≡ y → (typing.member_typing p x name y).type ≡ Some u
           → Fine s env (exchanged a) untaken w (member_alone env at a args (receives env Nowhere (eval env (e.Member at a name args))) (member_called p (this_of env.method) a name))
       by None i y j z = absurd (none_some u z)
       by (Some x) i None j z = absurd (none_some u z)

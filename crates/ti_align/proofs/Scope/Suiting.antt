@@ -11,7 +11,7 @@ use Rattle.ti_lang.specs.Program.Scope.{ScopeContents, this_of, method_scope}
 use Rattle.ti_lang.specs.Typing.Kinds.{is_void, is_object}
 use Rattle.ti_lang.specs.Typing.Fits.{fits}
 use Rattle.ti_lang.specs.Typing.Declared.{result_type, types_of, instance_method}
-use Rattle.ti_lang.specs.Typing.Expressions.{one, all_fit, takes, called, member, operands, operand_type}
+use Rattle.ti_lang.specs.Typing.Expressions.{one, all_fit, takes, called, member_typing, operands, operand_type}
 use Rattle.ti_lang.specs.Typing.Called.{called_method, method_behind}
 use Rattle.ti_lang.specs.Typing.TextTypes.{syntactic_type}
 use Rattle.ti_lang.specs.Meaning.Calls.{parameters_from, parameters_of}
@@ -72,15 +72,15 @@ module _ (p : ProgramView) (m : NumberedMethod) (s : ScopeContents) (this : s.th
   not_behind name _ c k z = none_some c z
 
   -- behind an object
-  member_takes : (name : ℕ) (args : NumberedExps) (u x type : ValueType) → Alike u x → (member p (Some u) name (operands p s args)).type
+  member_takes : (name : ℕ) (args : NumberedExps) (u x type : ValueType) → Alike u x → (member_typing p (Some u) name (operands p s args)).type
       ≡ Some type → (c : NumberedMethod) → method_behind p x name ≡ Some c → Takes p s args type c
   member_takes name args u x type f z c i = by u f z
     where
-      object : (d : ℕ) (l : Bool) (q : Option (List ValueType)) → (member p (Some (t.Class d l)) name q).type ≡ Some type → (called (instance_method p d name) q).type ≡ Some type
+      object : (d : ℕ) (l : Bool) (q : Option (List ValueType)) → (member_typing p (Some (t.Class d l)) name q).type ≡ Some type → (called (instance_method p d name) q).type ≡ Some type
       object d l None z = z
       object d l (Some ts) z = z
 
-      by : (u : ValueType) → Alike u x → (member p (Some u) name (operands p s args)).type ≡ Some type → Takes p s args type c
+      by : (u : ValueType) → Alike u x → (member_typing p (Some u) name (operands p s args)).type ≡ Some type → Takes p s args type c
       by (t.Class d l) f z = call_takes p s args (instance_method p d name) type (object d l (operands p s args) z) c (ap (λ y. method_behind p y name) (sym (f.0 refl)) ∙ i)
       by t.Int f z = absurd (not_behind name x c (no_object t.Int x refl f) i)
       by t.Long f z = absurd (not_behind name x c (no_object t.Long x refl f) i)
@@ -98,7 +98,7 @@ module _ (p : ProgramView) (m : NumberedMethod) (s : ScopeContents) (this : s.th
   whole_takes (e.OwnCall at method args) type k c i = call_takes p s args (slice_get p.methods method) type k.0 c i
   whole_takes (e.Member at a name args) type k c i = by (operand_type p s a) refl k.0
     where
-      by : (o : Option ValueType) → operand_type p s a ≡ o → (member p o name (operands p s args)).type ≡ Some type → Takes p s args type c
+      by : (o : Option ValueType) → operand_type p s a ≡ o → (member_typing p o name (operands p s args)).type ≡ Some type → Takes p s args type c
       by None j z = absurd (none_some type z)
       by (Some u) j z = member_takes name args u (syntactic_type p (this_of m) a) type (in_text p m s this points a k.1.0 u j) z c i
   whole_takes _ type k c i = absurd (none_some c i)

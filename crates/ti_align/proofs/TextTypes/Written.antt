@@ -30,7 +30,7 @@ use Rattle.ti_rules.specs.declared.refusal.Refusal.{Refusal}
 use Rattle.ti_rules.specs.Refusals.{refused_if}
 use Rattle.ti_rules.specs.Known.{IsThere, IsKnown, AreKnown, IsKnownRange, AreKnownRanges}
 use Rattle.ti_rules.specs.Parts.{parts_of_ranges}
-use Rattle.ti_rules.specs.InitialTypes.{right_side_type, can_broadcast, broadcast_type, region_type, is_region_type, object_type, Spread, Over, Ranged, spread, spread_type, grid_over, new_grid_type, initial_type}
+use Rattle.ti_rules.specs.InitialTypes.{right_side_type, can_broadcast, broadcast_type, region_type, is_region_type, object_type, Spread, Over, Ranged, dims_spread, spread_type, grid_over, new_grid_type, initial_type}
 use Rattle.ti_lang.specs.Typing.Singleness.{is_single_part}
 use Rattle.ti_rules.specs.StmtInContext.{singles_in, with_foreach_variable, variables_inside}
 use Rattle.ti_rules.specs.Broken.Refused.{refusal_at, judged, both_judged, operand_refusal, misfit}
@@ -38,7 +38,7 @@ use Rattle.ti_rules.specs.Broken.Words.{type_word_refusals}
 use Rattle.ti_rules.specs.Broken.Misplaced.{gives_nothing, misplaced, bounds_misplaced}
 use Rattle.ti_rules.specs.Broken.Expressions.{refusals_at, exp_refusals}
 use Rattle.ti_rules.specs.Broken.RightSides.{inner_refusals, value_refusals, region_refusals, dims_refusals, one_dim_spread, initial_refusals}
-use Rattle.ti_rules.specs.Broken.Targets.{is_foreach_variable, is_coordinate, is_hidden_local, write_refusals}
+use Rattle.ti_rules.specs.Broken.Targets.{is_foreach_variable, is_point_coordinate, is_hidden_local, write_refusals}
 use Rattle.ti_rules.specs.Broken.Statements.{narrows, result_refusals, update_refusals, operator_of}
 use Rattle.ti_rules.proofs.Lemmas.{nil_left, nil_right, not_refused, not_mistaken, no_misfit, there_is, operand_there, has_type}
 use Rattle.ti_align.specs.Mirrors.Fitting.{IsWritten, AreWritten, IsRangeWritten, AreRangesWritten}
@@ -68,7 +68,7 @@ one_more_fine f (y ∷ xs) x h k =
 -- what may be written
 write_fine : (p : ProgramView) (s : ScopeContents) (at : Place) (target : NumberedExp) (value : List Refusal) → write_refusals p s at target value ≡ []
     → ((is_foreach_variable target ≡ false) × (is_hidden_local p s target ≡ false)) × (value ≡ [])
-write_fine p s at target value h = by (is_coordinate p s target) h
+write_fine p s at target value h = by (is_point_coordinate p s target) h
   where
     turned : List Refusal
     turned = refused_if (is_foreach_variable target) Y2 at
@@ -311,7 +311,7 @@ module _ (p : ProgramView) (fields : FieldsMeant p) (m : NumberedMethod) (s : Sc
           absurd (none_some q.0 (ap (option_and_then (rect_literal (range_count rs))) (sym z) ∙ q.1))
 
   spread_fits : (at : Place) (dims : NumberedDims) → DimsMeant p m turns dims → dims_refusals p s dims ≡ []
-      → (over : Spread) × (spread p s dims ≡ Some over) × ((n : ℕ) → spread_type over ≡ Some (t.Rc n) → IsInner p m s (domain_written at dims) (t.Rc n))
+      → (over : Spread) × (dims_spread p s dims ≡ Some over) × ((n : ℕ) → spread_type over ≡ Some (t.Rc n) → IsInner p m s (domain_written at dims) (t.Rc n))
   spread_fits at (st.Domain x) k h = let q = inner_fits x k h in (Over q.0, ap (option_map Over) q.1.1, λ n i. (q.1.0, q.1.1 ∙ i))
   spread_fits at (st.Ranges ranges) k h =
       let rs = numbered_ranges ranges in
@@ -365,16 +365,16 @@ module _ (p : ProgramView) (fields : FieldsMeant p) (m : NumberedMethod) (s : Sc
       )
   init_fits (st.NewGrid at region element dims_at dims) k h =
       let rule = λ (r : ValueType) (d : Spread). operand_refusal at (is_some (new_grid_type element.type r d)) (is_some (new_grid_type element.type r (one_dim_spread d))) in
-      let own = both_judged (region_type p s region) (spread p s dims) rule in
+      let own = both_judged (region_type p s region) (dims_spread p s dims) rule in
       let parts = nil_left ((region_refusals p s region ++ type_word_refusals false element) ++ dims_refusals p s dims) own h in
       let words = nil_left (region_refusals p s region ++ type_word_refusals false element) (dims_refusals p s dims) parts in
       let q = region_fits region k.0 (nil_left (region_refusals p s region) (type_word_refusals false element) words) in
       let d = spread_fits dims_at dims k.2 (nil_right (region_refusals p s region ++ type_word_refusals false element) (dims_refusals p s dims) parts) in
-      let i = both_at (region_type p s region) (spread p s dims) rule q.0 d.0 q.1 d.1 (nil_right ((region_refusals p s region ++ type_word_refusals false element) ++ dims_refusals p s dims) own h) in
+      let i = both_at (region_type p s region) (dims_spread p s dims) rule q.0 d.0 q.1 d.1 (nil_right ((region_refusals p s region ++ type_word_refusals false element) ++ dims_refusals p s dims) own h) in
       let g = grid_there element.type q.0 d.0 (not_mistaken at _ _ i) in (
         t.Grid element.type g.0 true,
         (g.0, refl {a = t.Grid element.type g.0 true}, q.2 g.1, d.2 g.0 g.2, storable_is element.type k.1),
-        both_typed (region_type p s region) (spread p s dims) (new_grid_type element.type) q.0 d.0 (t.Grid element.type g.0 true) q.1 d.1 g.3,
+        both_typed (region_type p s region) (dims_spread p s dims) (new_grid_type element.type) q.0 d.0 (t.Grid element.type g.0 true) q.1 d.1 g.3,
       )
   init_fits (st.Broadcast at x root) k h =
       let rule = λ (u r : ValueType). operand_refusal at (is_some (broadcast_type u r)) false in

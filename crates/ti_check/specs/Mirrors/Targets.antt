@@ -9,9 +9,9 @@ use Rattle.ti_rules.specs.declared.refusal.Refusal.{Refusal}
 use Rattle.ti_rules.specs.Refusals.{refused_if}
 use Rattle.ti_rules.specs.Mirrors.First.{earlier_of, earliest}
 use Rattle.ti_rules.specs.Broken.Refused.{refusal_at}
-use Rattle.ti_rules.specs.Broken.Targets.{is_foreach_variable, is_coordinate, is_hidden_local}
+use Rattle.ti_rules.specs.Broken.Targets.{is_foreach_variable, is_point_coordinate, is_hidden_local}
 
 abbrev pub write_refusal : ProgramView → ScopeContents → Place → NumberedExp → Option Refusal → Option Refusal
 write_refusal p s at target value =
-    if is_coordinate p s target then earliest (refusal_at Y1 at) else
+    if is_point_coordinate p s target then earliest (refusal_at Y1 at) else
     earlier_of (earliest (refused_if (is_foreach_variable target) Y2 at ++ refused_if (is_hidden_local p s target) Q2 at)) value

@@ -10,7 +10,7 @@ use Rattle.ti_lang.specs.Program.Statements as st
 use Rattle.ti_lang.specs.Program.Classes.{NumberedResult, NumberedMethod, ProgramView}
 use Rattle.ti_lang.specs.Program.Classes as c
 use Rattle.ti_lang.specs.Program.Scope.{this_of}
-use Rattle.ti_lang.specs.Typing.Kinds.{is_local, is_point}
+use Rattle.ti_lang.specs.Typing.Kinds.{is_local, is_point_type}
 use Rattle.ti_lang.specs.Typing.TextTypes.{syntactic_type}
 use Rattle.ti_lang.specs.Typing.Called.{called_method, member_called}
 use Rattle.ti_lang.specs.Typing.Singleness.{tells_of_domain, is_single_sent}
@@ -49,7 +49,7 @@ module _ (p : ProgramView) (m : NumberedMethod) (inside : ℕ → List (Option M
     dependencies (x.Unary at op a) = dependencies a
     dependencies (x.Binary at op a b) = dependencies a ++ dependencies b
     dependencies (x.Cast at to a) = plain_if (is_local to.type) ++ dependencies a
-    dependencies (x.Index at a xs) = plain_if (not (is_point (syntactic_type p (this_of m) a))) ++ (dependencies a ++ all_dependencies xs)
+    dependencies (x.Index at a xs) = plain_if (not (is_point_type (syntactic_type p (this_of m) a))) ++ (dependencies a ++ all_dependencies xs)
     dependencies (x.Member at a name args) = plain_if (not (tells_of_domain (member_called p (this_of m) a name))) ++ (dependencies a ++ all_dependencies args)
     dependencies e = None ∷ []
 

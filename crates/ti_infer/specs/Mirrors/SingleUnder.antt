@@ -4,7 +4,7 @@ use Rattle.ti_lang.specs.Program.Types.{Declaration, Typed, Foreach}
 use Rattle.ti_lang.specs.Program.Expressions.{NumberedExp, NumberedExps, NumberedRange, NumberedRanges}
 use Rattle.ti_lang.specs.Program.Expressions as x
 use Rattle.ti_lang.specs.Program.Classes.{NumberedMethod, ProgramView}
-use Rattle.ti_lang.specs.Typing.Kinds.{is_local, is_point}
+use Rattle.ti_lang.specs.Typing.Kinds.{is_local, is_point_type}
 use Rattle.ti_lang.specs.Typing.TextTypes.{syntactic_type}
 use Rattle.ti_lang.specs.Typing.Called.{member_called}
 use Rattle.ti_lang.specs.Typing.Singleness.{tells_of_domain}
@@ -29,7 +29,7 @@ module _ (program : ProgramView) (this : Option ℕ) (test : ℕ → Declaration
     single_under (x.Unary at op a) = single_under a
     single_under (x.Binary at op a b) = single_under a && single_under b
     single_under (x.Cast at to a) = not (is_local to.type) && single_under a
-    single_under (x.Index at a xs) = is_point (syntactic_type program this a) && (single_under a && all_under xs)
+    single_under (x.Index at a xs) = is_point_type (syntactic_type program this a) && (single_under a && all_under xs)
     single_under (x.Member at a name args) = tells_of_domain (member_called program this a name) && (single_under a && all_under args)
     single_under e = false
 

@@ -8,7 +8,7 @@ use Rattle.ti_lang.specs.Program.Expressions.{NumberedExp, NumberedExps, Numbere
 use Rattle.ti_lang.specs.Program.Expressions as e
 use Rattle.ti_lang.specs.Program.Scope.{this_of}
 use Rattle.ti_lang.specs.Typing.Called.{member_called}
-use Rattle.ti_lang.specs.Typing.Kinds.{is_point}
+use Rattle.ti_lang.specs.Typing.Kinds.{is_point_type}
 use Rattle.ti_lang.specs.Meaning.Held.{Held, Plain}
 use Rattle.ti_base.specs.declared.value.Value.TheVariants as v
 use Rattle.ti_lang.specs.Meaning.Comp.{Request, Gives, Asks, Fails, Comp, ◌>>=◌, bind_result, gives}
@@ -95,7 +95,7 @@ module _ (env : Env) where
         computes_then _ _ (eval_computes x)
         (λ h. computes_then _ _ (all_compute args) (λ hs. computes_short _ (member_short at _ (member_called env.program (this_of env.method) x name) _ h hs)))
     eval_computes (e.Index at x parts) =
-        computes_then _ _ (eval_computes x) (λ h. computes_then _ _ (numbers_compute parts) (λ ns. computes_short _ (indexed_short (is_point (type_of env x)) at _ _ h ns)))
+        computes_then _ _ (eval_computes x) (λ h. computes_then _ _ (numbers_compute parts) (λ ns. computes_short _ (indexed_short (is_point_type (type_of env x)) at _ _ h ns)))
     eval_computes x = computes_value _
 
     pub all_compute : (xs : NumberedExps) → Computes (eval_all env xs)

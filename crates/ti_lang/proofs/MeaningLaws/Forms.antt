@@ -7,7 +7,7 @@ use Rattle.ti_lang.specs.Program.Types as t
 use Rattle.ti_lang.specs.Program.Expressions.{NumberedExp}
 use Rattle.ti_lang.specs.Program.Expressions as e
 use Rattle.ti_lang.specs.Program.Classes.{ProgramView}
-use Rattle.ti_lang.specs.Typing.Kinds.{is_point, class_of_type}
+use Rattle.ti_lang.specs.Typing.Kinds.{is_point_type, class_of_type}
 use Rattle.ti_lang.specs.Typing.BuiltIn.{BuiltIn, Size, Min, Max, Contains, Domain, Restrict, Translate, Slice, Copy, Exchange, Delete, built_in}
 use Rattle.ti_lang.specs.Typing.TextTypes.{used_type, joined_type, product_type, operator_type, static_field_type, static_element_type, slice_type, built_in_type, static_member_type, type_at}
 
@@ -211,7 +211,7 @@ module _ (p : ProgramView) (this : Option ℕ) (dims other : ℕ → ℕ) where
 
 -- ---- forms
 
-point_flat : (x : ValueType) → is_point x ≡ is_point (flat x)
+point_flat : (x : ValueType) → is_point_type x ≡ is_point_type (flat x)
 point_flat t.Int = refl
 point_flat t.Long = refl
 point_flat t.Boolean = refl
@@ -237,8 +237,8 @@ class_flat (t.Grid element n is_local) = refl
 class_flat t.Null = refl
 class_flat t.Void = refl
 
-pub point_told : (p : ProgramView) (this : Option ℕ) (dims other : ℕ → ℕ) (x : NumberedExp) → is_point (type_at p this dims x) ≡ is_point (type_at p this other x)
-point_told p this dims other x = point_flat (type_at p this dims x) ∙ ap is_point (type_flat p this dims other x) ∙ sym (point_flat (type_at p this other x))
+pub point_told : (p : ProgramView) (this : Option ℕ) (dims other : ℕ → ℕ) (x : NumberedExp) → is_point_type (type_at p this dims x) ≡ is_point_type (type_at p this other x)
+point_told p this dims other x = point_flat (type_at p this dims x) ∙ ap is_point_type (type_flat p this dims other x) ∙ sym (point_flat (type_at p this other x))
 
 pub class_told : (p : ProgramView) (this : Option ℕ) (dims other : ℕ → ℕ) (x : NumberedExp) → class_of_type (type_at p this dims x) ≡ class_of_type (type_at p this other x)
 class_told p this dims other x = class_flat (type_at p this dims x) ∙ ap class_of_type (type_flat p this dims other x) ∙ sym (class_flat (type_at p this other x))

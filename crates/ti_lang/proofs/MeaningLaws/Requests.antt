@@ -28,7 +28,7 @@ use Rattle.ti_lang.specs.Program.Expressions as e
 use Rattle.ti_lang.specs.Program.Statements.{NumberedDims, NumberedInit, NumberedPrint, NumberedStm}
 use Rattle.ti_lang.specs.Program.Statements as s
 use Rattle.ti_lang.specs.Program.Scope.{this_of}
-use Rattle.ti_lang.specs.Typing.Kinds.{is_point}
+use Rattle.ti_lang.specs.Typing.Kinds.{is_point_type}
 use Rattle.ti_lang.specs.Typing.BuiltIn.{BuiltIn, Size, Min, Max, Contains, Domain, Restrict, Translate, Slice, Copy, Exchange, Delete}
 use Rattle.ti_lang.specs.Typing.Declared.{result_type}
 use Rattle.ti_lang.specs.Typing.Called.{member_called}
@@ -41,7 +41,7 @@ use Rattle.ti_lang.specs.Meaning.Literals as literal
 use Rattle.ti_lang.specs.Meaning.Processes.{Variable, Receiver, Nowhere, Declared, Assigned, Updated, While, Foreach, ContItem, Do, End, Before, Behind, Receive, CopyAll, TakeAll, Frame, Wait, Process}
 use Rattle.ti_lang.specs.Meaning.Scoping.{Env, env_of, type_of, declared_type, field_selected}
 use Rattle.ti_lang.specs.Meaning.CellRefs.{Part, Field, Element, fetched, domain_asked, domain_of, viewed, coordinate, indexed}
-use Rattle.ti_lang.specs.Meaning.MemberForms.{domain_size, member}
+use Rattle.ti_lang.specs.Meaning.MemberForms.{domain_size, member_value}
 use Rattle.ti_lang.specs.Meaning.Evaluation.{unless_settled, eval, eval_all, eval_numbers, eval_range, eval_ranges}
 use Rattle.ti_lang.specs.Meaning.Targets.{Target, InVariable, InPart, located, held_in, stored, into}
 use Rattle.ti_lang.specs.Meaning.Moves.{Move, Goes, Turns, Breaks, Continues, Calls, Returns, Meets, Deletes, receives}
@@ -205,7 +205,7 @@ module _ (T : ℕ → Type 0) (Q : Request → Type 0) (each : Each T Q) where
   sized_asks at (Dm dim points) rest = tt
   sized_asks at _ rest = tt
 
-  member_asks : (at : Place) (type : ValueType) (o : Option BuiltIn) (through : ValueType) (h : Held) (args : List Held) (rest : List Answer) → Of Q (member at type o through h args rest)
+  member_asks : (at : Place) (type : ValueType) (o : Option BuiltIn) (through : ValueType) (h : Held) (args : List Held) (rest : List Answer) → Of Q (member_value at type o through h args rest)
   member_asks at type (Some Size) through h args rest = sized_asks at h rest
   member_asks at type (Some Min) through h args rest = guarded_asks _ _ at _ rest
   member_asks at type (Some Max) through h args rest = guarded_asks _ _ at _ rest
@@ -251,7 +251,7 @@ module _ (T : ℕ → Type 0) (Q : Request → Type 0) (each : Each T Q) where
         (member_called env.program (this_of env.method) x name) (type_of env x) h hs w))
     eval_asks env (e.Index at x parts) rest =
         then_asks (eval env x rest) _ (eval_asks env x rest) (λ h u.
-        then_asks (eval_numbers env parts u) _ (numbers_ask env parts u) (λ indices w. indexed_asks (is_point (type_of env x)) at (type_of env (e.Index at x parts)) (type_of env x) h indices w))
+        then_asks (eval_numbers env parts u) _ (numbers_ask env parts u) (λ indices w. indexed_asks (is_point_type (type_of env x)) at (type_of env (e.Index at x parts)) (type_of env x) h indices w))
     eval_asks env (e.Call at method args) rest = tt
     eval_asks env (e.OwnCall at method args) rest = tt
 

@@ -14,7 +14,7 @@ use Rattle.ti_lang.specs.Meaning.Held.{Held, Plain, Dm, point_of}
 use Rattle.ti_lang.specs.Meaning.Comp.{Request, Reference, Gives, Asks, Comp, ◌>>=◌, bind_result, gives, found_or, asked, needed, told}
 use Rattle.ti_lang.specs.Meaning.Literals.{point_of_numbers}
 use Rattle.ti_lang.specs.Meaning.CellRefs.{Part, Field, Element, fetched, domain_of, viewed, coordinate, indexed}
-use Rattle.ti_lang.specs.Meaning.MemberForms.{domain_size, member}
+use Rattle.ti_lang.specs.Meaning.MemberForms.{domain_size, member_value}
 use Rattle.ti_lang.proofs.MeaningLaws.Silent.{Silent, silent_value, silent_guarded, silent_found, silent_needed, silent_then, silent_leaves, rest_same, asks_gives}
 
 -- it asks for one action, whose answer it uses
@@ -73,7 +73,7 @@ sized_silent at (Plain (v.Rc r)) = silent_guarded _ _ at _
 sized_silent at (Dm dim points) = silent_value _
 sized_silent at h = silent_value _
 
-pub member_short : (at : Place) (type : ValueType) (o : Option BuiltIn) (through : ValueType) (h : Held) (hs : List Held) → Short (member at type o through h hs)
+pub member_short : (at : Place) (type : ValueType) (o : Option BuiltIn) (through : ValueType) (h : Held) (hs : List Held) → Short (member_value at type o through h hs)
 member_short at type (Some b.Size) through h hs = inl (sized_silent at h)
 member_short at type (Some b.Min) through h hs = inl (silent_guarded _ _ at _)
 member_short at type (Some b.Max) through h hs = inl (silent_guarded _ _ at _)

@@ -16,7 +16,7 @@ use Rattle.ti_lang.specs.Typing.Fits.{casts}
 use Rattle.ti_lang.specs.Typing.Kinds.{where_true, is_void, is_whole, as_global, read_through, dim_of_type}
 use Rattle.ti_lang.specs.Typing.Operators.{whole_type, truth_type, point_type, rect_type, domain_type, binary_type, unary_type}
 use Rattle.ti_lang.specs.Typing.BuiltIn.{BuiltIn, Size, Min, Max, Contains, Domain, Restrict, Translate, Slice, Copy, Exchange, Delete, built_in, member_type}
-use Rattle.ti_lang.specs.Typing.Expressions.{is_int, and_then_both, append_both, one, all_ints, point_literal, range_of_points, rect_literal, index_type, select_type, called, member_given, member, range_count, type_result, operand, operands, bound_types, bounds, expr_type}
+use Rattle.ti_lang.specs.Typing.Expressions.{is_int, and_then_both, append_both, one, all_ints, point_literal, range_of_points, rect_literal, index_type, select_type, called, member_given, member_typing, range_count, type_result, operand, operands, bound_types, bounds, expr_type}
 use Rattle.ti_lang.specs.Typing.Declared.{declared_type, field_type, named_field_type, instance_method, result_type}
 use Rattle.ti_lang.specs.Typing.TextTypes.{IsDimOf, AreDims, IsRangeDims, AreRangesDims, used_type, how_many, joined_type, product_type, operator_type, static_field_type, static_element_type, built_in_type, static_member_type, type_at, dims_of_range, dims_of_ranges}
 use Rattle.ti_lang.proofs.MeaningLaws.NewThings.{both_true}
@@ -343,7 +343,7 @@ module _ (program : ProgramView) (s : ScopeContents) (dims : ℕ → ℕ) where
     agrees (e.Member at x name args) are ty h = by_operands (operand (type_result program s x)) (operands program s args) (operand_of x (agrees x are)) h
       where
         by_operands : (o : Option ValueType) (ts : Option (List ValueType))
-            → ((u : ValueType) → o ≡ Some u → type_at program s.this_class dims x ≡ u) → (member program o name ts).type ≡ Some ty
+            → ((u : ValueType) → o ≡ Some u → type_at program s.this_class dims x ≡ u) → (member_typing program o name ts).type ≡ Some ty
             → static_member_type program name (type_at program s.this_class dims x) ≡ ty
         by_operands None ts f h = no_some ty h
         by_operands (Some u) None f h = no_some ty h

@@ -9,7 +9,7 @@ use Rattle.ti_lang.specs.Program.Types.{ValueType}
 use Rattle.ti_lang.specs.Program.Expressions.{NumberedExp, NumberedExps, NumberedRange, NumberedRanges}
 use Rattle.ti_lang.specs.Program.Expressions as e
 use Rattle.ti_lang.specs.Program.Scope.{this_of}
-use Rattle.ti_lang.specs.Typing.Kinds.{is_local, is_point}
+use Rattle.ti_lang.specs.Typing.Kinds.{is_local, is_point_type}
 use Rattle.ti_lang.specs.Typing.Called.{member_called}
 use Rattle.ti_lang.specs.Meaning.Held.{Held, Plain, no_value, truth, referent_of}
 use Rattle.ti_lang.specs.Meaning.Comp.{Comp, ◌>>=◌, gives, guard}
@@ -18,7 +18,7 @@ use Rattle.ti_lang.specs.Meaning.Conversions.{converted}
 use Rattle.ti_lang.specs.Meaning.Operators.{apply_binary, short_circuit, operated_alone}
 use Rattle.ti_lang.specs.Meaning.Scoping.{Env, value_by, type_of, field_selected}
 use Rattle.ti_lang.specs.Meaning.CellRefs.{Field, fetched, indexed}
-use Rattle.ti_lang.specs.Meaning.MemberForms.{member}
+use Rattle.ti_lang.specs.Meaning.MemberForms.{member_value}
 
 -- ---- casts
 
@@ -80,11 +80,11 @@ abbrev mutual
   eval env (e.Member at x name args) = do
     h ← eval env x
     hs ← eval_all env args
-    member at (type_of env (e.Member at x name args)) (member_called env.program (this_of env.method) x name) (type_of env x) h hs
+    member_value at (type_of env (e.Member at x name args)) (member_called env.program (this_of env.method) x name) (type_of env x) h hs
   eval env (e.Index at x parts) = do
     h ← eval env x
     indices ← eval_numbers env parts
-    indexed (is_point (type_of env x)) at (type_of env (e.Index at x parts)) (type_of env x) h indices
+    indexed (is_point_type (type_of env x)) at (type_of env (e.Index at x parts)) (type_of env x) h indices
   eval env (e.Call at method args) = gives no_value
   eval env (e.OwnCall at method args) = gives no_value
 

@@ -34,14 +34,14 @@ domain_has (Dm dim points) p = is_among points p
 domain_has h p = false
 
 -- the value of a built-in member of type `type` on a receiver of type `through`; `copy`, `exchange` and `delete` have no value
-abbrev pub member : Place → ValueType → Option BuiltIn → ValueType → Held → List Held → Comp Held
-member at type (Some Size) through h args = domain_size at h
-member at type (Some Min) through h args = extreme at h (rect_of h).lo
-member at type (Some Max) through h args = extreme at h (rect_of h).hi
-member at type (Some Contains) through h args = gives (truth (domain_has h (point_of (slice_index_or args 0 no_value))))
-member at type (Some Domain) through h args = domain_of at through h
-member at type (Some Restrict) through h args = viewed at type (how.Restrict (rect_of (slice_index_or args 0 no_value))) through h
-member at type (Some Translate) through h args = viewed at type (how.Translate (point_of (slice_index_or args 0 no_value))) through h
-member at type (Some Slice) through h args =
+abbrev pub member_value : Place → ValueType → Option BuiltIn → ValueType → Held → List Held → Comp Held
+member_value at type (Some Size) through h args = domain_size at h
+member_value at type (Some Min) through h args = extreme at h (rect_of h).lo
+member_value at type (Some Max) through h args = extreme at h (rect_of h).hi
+member_value at type (Some Contains) through h args = gives (truth (domain_has h (point_of (slice_index_or args 0 no_value))))
+member_value at type (Some Domain) through h args = domain_of at through h
+member_value at type (Some Restrict) through h args = viewed at type (how.Restrict (rect_of (slice_index_or args 0 no_value))) through h
+member_value at type (Some Translate) through h args = viewed at type (how.Translate (point_of (slice_index_or args 0 no_value))) through h
+member_value at type (Some Slice) through h args =
     viewed at type (how.Slice (int_of (slice_index_or args 0 no_value)) (int_of (slice_index_or args 1 no_value))) through h
-member at type other through h args = gives no_value
+member_value at type other through h args = gives no_value

@@ -122,10 +122,10 @@ member_given p (Class c local) name ts = called (instance_method p c name) (Some
 member_given p t name ts = plain (option_and_then (λ (b : BuiltIn). member_type b t ts) (built_in p name))
 
 -- the result for `x.f(..)`, from the types of the receiver and the arguments, if they have any
-abbrev pub member : ProgramView → Option ValueType → ℕ → Option (List ValueType) → ExprTyping
-member p (Some t) name (Some ts) = member_given p t name ts
-member p (Some t) name None = plain None
-member p None name ts = plain None
+abbrev pub member_typing : ProgramView → Option ValueType → ℕ → Option (List ValueType) → ExprTyping
+member_typing p (Some t) name (Some ts) = member_given p t name ts
+member_typing p (Some t) name None = plain None
+member_typing p None name ts = plain None
 
 -- ---- expressions
 
@@ -155,7 +155,7 @@ abbrev mutual
   type_result p s (x.Binary at op a b) = plain (and_then_both (operand (type_result p s a)) (operand (type_result p s b)) (binary_type op))
   type_result p s (x.Cast at to a) = plain (option_and_then (λ t. where_true (casts to.type t) to.type) (operand (type_result p s a)))
   type_result p s (x.Select at a name) = plain (option_and_then (λ t. select_type p t name) (operand (type_result p s a)))
-  type_result p s (x.Member at a name args) = member p (operand (type_result p s a)) name (operands p s args)
+  type_result p s (x.Member at a name args) = member_typing p (operand (type_result p s a)) name (operands p s args)
   type_result p s (x.Index at a parts) = plain (and_then_both (operand (type_result p s a)) (operands p s parts) index_type)
 
   -- the types of a list of operands, if all have one

@@ -59,9 +59,9 @@ is_object (Class c local) = true
 is_object _ = false
 
 -- a point
-abbrev pub is_point : ValueType → Bool
-is_point (Pt n) = true
-is_point _ = false
+abbrev pub is_point_type : ValueType → Bool
+is_point_type (Pt n) = true
+is_point_type _ = false
 
 -- the class of an object
 abbrev pub class_of_type : ValueType → Option ℕ

@@ -8,7 +8,7 @@ use Rattle.ti_lang.specs.Program.Statements.{NumberedInit}
 use Rattle.ti_lang.specs.Program.Statements as st
 use Rattle.ti_lang.specs.Program.Classes.{NumberedResult, NumberedMethod, ProgramView}
 use Rattle.ti_lang.specs.Program.Classes as c
-use Rattle.ti_lang.specs.Typing.Kinds.{is_local, is_point}
+use Rattle.ti_lang.specs.Typing.Kinds.{is_local, is_point_type}
 use Rattle.ti_lang.specs.Typing.BuiltIn.{BuiltIn, Size, Min, Max, Contains}
 use Rattle.ti_lang.specs.Typing.TextTypes.{syntactic_type}
 use Rattle.ti_lang.specs.Typing.Called.{called_method, member_called}
@@ -46,7 +46,7 @@ module _ (program : ProgramView) (this : Option ℕ) (singles : ℕ → Bool) wh
     -- a cast to a local reference isn't single
     is_single_part (x.Cast at to a) = not (is_local to.type) && is_single_part a
     -- of the index expressions, a coordinate of a point can be single, and an element of a grid can't
-    is_single_part (x.Index at a xs) = is_point (syntactic_type program this a) && (is_single_part a && are_single xs)
+    is_single_part (x.Index at a xs) = is_point_type (syntactic_type program this a) && (is_single_part a && are_single xs)
     is_single_part (x.Member at a name args) = tells_of_domain (member_called program this a name) && (is_single_part a && are_single args)
     -- a field, `this`, `null` and the process's own number aren't single, nor is a call inside an expression
     is_single_part e = false

@@ -3,7 +3,7 @@ ghost use Rattle.std.specs.Prelude.{◌≡◌, ℕ, Bool, Option, Some};
 ghost use Rattle.ti_lang.specs.Program.Types.{ValueType};
 ghost use Rattle.ti_lang.specs.Program.Expressions.{NumberedExp};
 ghost use Rattle.ti_lang.specs.Program.Classes.{ProgramView};
-ghost use Rattle.ti_lang.specs.Typing.Kinds.{is_point, class_of_type};
+ghost use Rattle.ti_lang.specs.Typing.Kinds.{is_point_type, class_of_type};
 ghost use Rattle.ti_lang.specs.Program.Scope.{ScopeContents};
 ghost use Rattle.ti_lang.specs.Typing.Expressions.{expr_type};
 ghost use Rattle.ti_lang.specs.Typing.TextTypes.{static_element_type, type_at, AreDims};
@@ -11,7 +11,7 @@ ghost use Rattle.ti_lang.specs.Typing.TextTypes.{static_element_type, type_at, A
 /// Whether an expression is a point, its class and its element type don't depend on the dimensions of foreach variables.
 pub fn forms_have_no_dimensions()
     ensures points { (program : ProgramView) (this : Option ℕ) (dims other : ℕ → ℕ) (x : NumberedExp)
-        → is_point (type_at program this dims x) ≡ is_point (type_at program this other x) }
+        → is_point_type (type_at program this dims x) ≡ is_point_type (type_at program this other x) }
     ensures classes { (program : ProgramView) (this : Option ℕ) (dims other : ℕ → ℕ) (x : NumberedExp)
         → class_of_type (type_at program this dims x) ≡ class_of_type (type_at program this other x) }
     ensures elements { (program : ProgramView) (this : Option ℕ) (dims other : ℕ → ℕ) (x : NumberedExp)

@@ -7,8 +7,8 @@ pub record CursorView : Type 0 where
   pub at : ℕ
 
 -- the bytes that aren't read yet
-abbrev pub rest : CursorView → List ℕ
-rest spot = drop spot.at spot.text
+abbrev pub unread_bytes : CursorView → List ℕ
+unread_bytes spot = drop spot.at spot.text
 
 -- the cursor n bytes further on
 abbrev pub skip_bytes : ℕ → CursorView → CursorView

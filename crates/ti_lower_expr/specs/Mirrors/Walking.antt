@@ -5,7 +5,7 @@ use Rattle.ti_base.specs.declared.value.Value.TheVariants as v
 use Rattle.ti_lang.specs.Program.Expressions.{NumberedExp, NumberedExps, NumberedRange, NumberedRanges}
 use Rattle.ti_lang.specs.Program.Expressions as e
 use Rattle.ti_lang.specs.Program.Classes.{ProgramView}
-use Rattle.ti_lang.specs.Typing.Kinds.{is_local, is_point, class_of_type}
+use Rattle.ti_lang.specs.Typing.Kinds.{is_local, is_point_type, class_of_type}
 use Rattle.ti_lang.specs.Typing.Declared.{field_numbered}
 use Rattle.ti_lang.specs.Typing.Called.{member_called}
 use Rattle.ti_lang.specs.Typing.TextTypes.{syntactic_type, how_many}
@@ -44,7 +44,7 @@ module _ (program : ProgramView) (this : Option ℕ) (names : List Name) where
     append_expr (e.Rect p ranges) code =
         append_ranges ranges code ++ coding.rect_instr (coding.kind_of_ranges program this ranges) (coding.how_many_ranges ranges) p ∷ []
     append_expr (e.Unary p op x) code = append_expr x code ++ coding.unary_code op
-    append_expr (e.Binary p op x y) code = append_operator (coding.short_circuit op) (coding.operation_in program this op x y) p (append_expr y) (append_expr x code)
+    append_expr (e.Binary p op x y) code = append_operator (coding.short_circuit_of op) (coding.operation_in program this op x y) p (append_expr y) (append_expr x code)
     append_expr (e.Cast p type x) code =
         append_expr x code ++ coding.conversion p type.type (known_of program this x) ++ coding.local_test p (is_local type.type)
     append_expr (e.Select p x name) code =
@@ -53,7 +53,7 @@ module _ (program : ProgramView) (this : Option ℕ) (names : List Name) where
     append_expr (e.Member p x name args) code =
         append_exprs args (append_expr x code) ++ coding.member_code (member_called program this x name) (how_many args) p
     append_expr (e.Index p x parts) code =
-        append_exprs parts (append_expr x code) ++ coding.index_code (is_point (syntactic_type program this x)) (how_many parts) p
+        append_exprs parts (append_expr x code) ++ coding.index_code (is_point_type (syntactic_type program this x)) (how_many parts) p
     append_expr (e.Call p method args) code = code ++ i.Const (v.Bool false) ∷ []
     append_expr (e.OwnCall p method args) code = code ++ i.Const (v.Bool false) ∷ []
 

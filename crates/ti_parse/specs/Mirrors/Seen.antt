@@ -14,7 +14,7 @@ use Rattle.ti_syntax.specs.declared.tree.classes.Member.{Member}
 use Rattle.ti_syntax.specs.declared.tree.classes.Class.{Class}
 use Rattle.ti_syntax.specs.Trees.Statements.{Stm, MaybeStm, NoStm, SomeStm}
 use Rattle.ti_syntax.specs.Trees.Classes.{ParamTree, MemberTree, TextTree}
-use Rattle.ti_syntax.specs.Trees.Views.{stm_of, type_of, param_of, member_of, class_of}
+use Rattle.ti_syntax.specs.Trees.Views.{stm_of, type_tree_of, param_of, member_of, class_of}
 use Rattle.ti_syntax.specs.Spelling.Operators.{modifier_of, class_modifier_of}
 use Rattle.ti_parse_expr.specs.declared.parse_stop.ParseStop.{ParseStop}
 use Rattle.ti_parse_expr.specs.Mirrors.Input.{ParseOutcome, Parser, Fails, ◌>>=◌, ◌>>◌, pure, expect}
@@ -32,7 +32,7 @@ modifier_word_of modified.Member = modifier_of
 
 -- the model of the start of a statement
 abbrev pub name_start_of : NameStart → parts.NameStart
-name_start_of (begun.DeclaredType ty) = parts.DeclaredType (type_of ty)
+name_start_of (begun.DeclaredType ty) = parts.DeclaredType (type_tree_of ty)
 name_start_of (begun.PostfixStart o) = parts.PostfixStart (operand_of o)
 
 abbrev pub boxed_stm : Box Stmt Global → Stm

@@ -18,11 +18,11 @@ grids_of v = map grid_of v.items
 abbrev pub qualifiers_of : Vec Qualifier Global → List Qualifier
 qualifiers_of v = v.items
 
-abbrev pub ending_of : PostfixKind → e.Ending
-ending_of ending.Target = e.Target
-ending_of ending.Call = e.Call
-ending_of ending.Other = e.Other
+abbrev pub postfix_ending : PostfixKind → e.Ending
+postfix_ending ending.Target = e.Target
+postfix_ending ending.Call = e.Call
+postfix_ending ending.Other = e.Other
 
 -- the model of an operand: its tree and its ending
 abbrev pub operand_of : PostfixExpr → Exp × e.Ending
-operand_of o = (exp_of o.expr, ending_of o.kind)
+operand_of o = (exp_of o.expr, postfix_ending o.kind)

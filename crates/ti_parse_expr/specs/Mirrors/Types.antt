@@ -24,14 +24,14 @@ dimension_by (k.Int n) = dimension_if (dim_from_int n)
 dimension_by _ = refuse
 
 -- the number of an arity
-abbrev pub dimension : Parser ℕ
-dimension = peek >>= dimension_by
+abbrev pub arity_number : Parser ℕ
+arity_number = peek >>= dimension_by
 
 -- `<` n `>`
 unfoldable pub arity : Parser ℕ
 arity = do
   expect k.Less
-  n ← dimension
+  n ← arity_number
   expect k.Greater
   pure n
 

@@ -15,7 +15,7 @@ use Rattle.ti_rules.specs.declared.refusal.Refusal.{Refusal}
 use Rattle.ti_rules.specs.Refusals.{refused_if}
 use Rattle.ti_lang.specs.Typing.Alike.{erase_dims, as_local}
 use Rattle.ti_rules.specs.Broken.Refused.{refusal_at, operand_refusal, misfit}
-use Rattle.ti_rules.specs.Broken.Calls.{has_member, arity, misfits, first_misfit, params_refusals, call_refusals, instance_refusals, copy_refusals, exchange_refusals, slice_refusals, argument_refusals, built_in_refusals, member_refusals}
+use Rattle.ti_rules.specs.Broken.Calls.{has_member, argument_count, misfits, first_misfit, params_refusals, call_refusals, instance_refusals, copy_refusals, exchange_refusals, slice_refusals, argument_refusals, built_in_refusals, member_refusals}
 use Rattle.ti_rules.specs.Known.{IsThere}
 use Rattle.ti_rules.proofs.Sound.Refused.{nil_left, nil_right, not_refused, not_mistaken, no_misfit, there_is, where_there, and_left, and_right}
 
@@ -152,7 +152,7 @@ else_of : (b : Bool) (xs : List Refusal) (rule : Rule) (at : Place) → (if not 
 else_of true xs rule at e = e
 else_of false xs rule at e = cc
 
-arguments_there : (at : Place) (b : BuiltIn) (t : ValueType) (ts : List ValueType) → has_member b t ≡ true → length ts ≡ arity b → argument_refusals at b t ts ≡ [] → IsThere (member_type b t ts)
+arguments_there : (at : Place) (b : BuiltIn) (t : ValueType) (ts : List ValueType) → has_member b t ≡ true → length ts ≡ argument_count b → argument_refusals at b t ts ≡ [] → IsThere (member_type b t ts)
 arguments_there at Slice t ts has count e = slice_there at t ts has count e
 arguments_there at Copy t ts has count e = copy_there at t ts count e
 arguments_there at Exchange t ts has count e = exchange_there at t ts has count e
@@ -161,11 +161,11 @@ arguments_there at b t ts has count e = there_is (member_type b t ts) (not_mista
 built_in_there : (at : Place) (b : Option BuiltIn) (t : ValueType) (ts : List ValueType) → built_in_refusals at b t ts ≡ [] → IsThere (option_and_then (λ (b : BuiltIn). member_type b t ts) b)
 built_in_there at None t ts e = cc
 built_in_there at (Some b) t ts e =
-    let rest = if not (length ts == arity b) then refusal_at Y4 at else argument_refusals at b t ts in
+    let rest = if not (length ts == argument_count b) then refusal_at Y4 at else argument_refusals at b t ts in
     let others = else_of (has_member b t) rest Y1 at e in
     arguments_there at b t ts (unless_of (has_member b t) rest Y1 at e)
-    (equal_counts (length ts) (arity b) (unless_of (length ts == arity b) (argument_refusals at b t ts) Y4 at others))
-    (else_of (length ts == arity b) (argument_refusals at b t ts) Y4 at others)
+    (equal_counts (length ts) (argument_count b) (unless_of (length ts == argument_count b) (argument_refusals at b t ts) Y4 at others))
+    (else_of (length ts == argument_count b) (argument_refusals at b t ts) Y4 at others)
 
 pub member_there : (p : ProgramView) (at : Place) (places : List Place) (name : ℕ) (t : ValueType) (ts : List ValueType) → length places ≡ length ts → member_refusals p at places name t ts ≡ []
     → IsThere (member_given p t name ts).type

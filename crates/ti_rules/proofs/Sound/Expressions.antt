@@ -10,7 +10,7 @@ use Rattle.ti_lang.specs.Typing.Kinds.{where_true, as_global}
 use Rattle.ti_lang.specs.Typing.Fits.{casts}
 use Rattle.ti_lang.specs.Typing.Operators.{unary_type, binary_type}
 use Rattle.ti_lang.specs.Typing.Declared.{field_type}
-use Rattle.ti_lang.specs.Typing.Expressions.{operand, append_both, one, all_ints, point_literal, rect_literal, index_type, select_type, call_type, called, member_given, member, type_result, operands, bound_types, bounds, range_count, expr_type, operand_type}
+use Rattle.ti_lang.specs.Typing.Expressions.{operand, append_both, one, all_ints, point_literal, rect_literal, index_type, select_type, call_type, called, member_given, member_typing, type_result, operands, bound_types, bounds, range_count, expr_type, operand_type}
 use Rattle.ti_rules.specs.declared.refusal.Refusal.{Refusal}
 use Rattle.ti_rules.specs.Broken.Refused.{judged, both_judged, operand_refusal}
 use Rattle.ti_rules.specs.Broken.Words.{type_word_refusals}
@@ -55,7 +55,7 @@ called_there m None rule there e gives = cc there.1
 called_there m (Some ts) rule there e gives = gives ts refl e
 
 member_of : (p : ProgramView) (name : ℕ) (o : Option ValueType) (q : Option (List ValueType)) (rule : ValueType → List ValueType → List Refusal) → IsThere o → IsThere q → both_judged o q rule ≡ []
-    → ((t : ValueType) (ts : List ValueType) → q ≡ Some ts → rule t ts ≡ [] → IsThere (member_given p t name ts).type) → IsThere (member p o name q).type
+    → ((t : ValueType) (ts : List ValueType) → q ≡ Some ts → rule t ts ≡ [] → IsThere (member_given p t name ts).type) → IsThere (member_typing p o name q).type
 member_of p name None q rule there other e gives = cc there.1
 member_of p name (Some t) None rule there other e gives = cc other.1
 member_of p name (Some t) (Some ts) rule there other e gives = gives t ts refl e

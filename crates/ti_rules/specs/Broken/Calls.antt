@@ -59,14 +59,14 @@ has_member Delete Region = true
 has_member _ _ = false
 
 -- the number of arguments of the member
-abbrev pub arity : BuiltIn → ℕ
-arity Contains = 1
-arity Restrict = 1
-arity Translate = 1
-arity Slice = 2
-arity Copy = 1
-arity Exchange = 1
-arity _ = 0
+abbrev pub argument_count : BuiltIn → ℕ
+argument_count Contains = 1
+argument_count Restrict = 1
+argument_count Translate = 1
+argument_count Slice = 2
+argument_count Copy = 1
+argument_count Exchange = 1
+argument_count _ = 0
 
 -- a grid is copied from one with the same element type and dimension; if the elements are local references, both grids must be local
 abbrev pub copy_refusals : Place → ValueType → List ValueType → List Refusal
@@ -103,7 +103,7 @@ abbrev pub built_in_refusals : Place → Option BuiltIn → ValueType → List V
 built_in_refusals at None t ts = refusal_at Y1 at
 built_in_refusals at (Some b) t ts =
     if not (has_member b t) then refusal_at Y1 at else
-    if not (length ts == arity b) then refusal_at Y4 at else
+    if not (length ts == argument_count b) then refusal_at Y4 at else
     argument_refusals at b t ts
 
 -- ---- both kinds of calls

@@ -6,7 +6,7 @@ use Rattle.ti_lang.specs.Program.Expressions.{NumberedExp, NumberedExps, place_o
 use Rattle.ti_lang.specs.Program.Expressions as x
 use Rattle.ti_lang.specs.Program.Classes.{ProgramView}
 use Rattle.ti_lang.specs.Program.Scope.{ScopeContents}
-use Rattle.ti_lang.specs.Typing.Kinds.{is_point}
+use Rattle.ti_lang.specs.Typing.Kinds.{is_point_type}
 use Rattle.ti_lang.specs.Typing.Fits.{casts}
 use Rattle.ti_lang.specs.Typing.Operators.{unary_type, binary_type}
 use Rattle.ti_lang.specs.Typing.Expressions.{operand_type, operands, bounds, range_count, is_int, all_ints, rect_literal, index_type, select_type}
@@ -26,7 +26,7 @@ places_of (x.MoreExp a rest) = place_of_numbered a ∷ places_of rest
 -- indices that aren't accepted would be in another number or with another number of dimensions
 abbrev pub other_indices : ValueType → List ValueType → Bool
 other_indices (Pt n) ts = not (length ts == 1)
-other_indices (Grid t n local) (u ∷ []) = is_int u || is_point u
+other_indices (Grid t n local) (u ∷ []) = is_int u || is_point_type u
 other_indices (Grid t n local) ts = not (length ts == n)
 other_indices _ ts = false
 

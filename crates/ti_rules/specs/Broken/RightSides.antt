@@ -11,7 +11,7 @@ use Rattle.ti_rules.specs.declared.rule.Rule.TheVariants.{Y6}
 use Rattle.ti_rules.specs.declared.refusal.Refusal.{Refusal}
 use Rattle.ti_rules.specs.Refusals.{refused_if}
 use Rattle.ti_lang.specs.Typing.Alike.{erase_dims}
-use Rattle.ti_rules.specs.InitialTypes.{is_region_type, region_type, Spread, Over, Ranged, spread, new_grid_type, broadcast_type}
+use Rattle.ti_rules.specs.InitialTypes.{is_region_type, region_type, Spread, Over, Ranged, dims_spread, new_grid_type, broadcast_type}
 use Rattle.ti_rules.specs.Parts.{parts_of_ranges}
 use Rattle.ti_rules.specs.Broken.Refused.{judged, both_judged, operand_refusal}
 use Rattle.ti_rules.specs.Broken.Words.{type_word_refusals}
@@ -51,7 +51,7 @@ initial_refusals p s (st.NewObject at region class) =
 -- the region of a new grid is a region, its domain is rectangular, and its elements aren't single
 initial_refusals p s (st.NewGrid at region element dims_at dims) =
     ((region_refusals p s region ++ type_word_refusals false element) ++ dims_refusals p s dims)
-    ++ both_judged (region_type p s region) (spread p s dims) (λ r d. operand_refusal at (is_some (new_grid_type element.type r d))
+    ++ both_judged (region_type p s region) (dims_spread p s dims) (λ r d. operand_refusal at (is_some (new_grid_type element.type r d))
     (is_some (new_grid_type element.type r (one_dim_spread d))))
 -- the root of a broadcast is an int, and the type of its value can be broadcast
 initial_refusals p s (st.Broadcast at e root) =

@@ -7,7 +7,7 @@ use Rattle.ti_lang.specs.Program.Expressions.{NumberedExp}
 use Rattle.ti_lang.specs.Program.Expressions as x
 use Rattle.ti_lang.specs.Program.Classes.{ProgramView}
 use Rattle.ti_lang.specs.Program.Scope.{ScopeContents}
-use Rattle.ti_lang.specs.Typing.Kinds.{is_local, is_point}
+use Rattle.ti_lang.specs.Typing.Kinds.{is_local, is_point_type}
 use Rattle.ti_lang.specs.Typing.Declared.{field_type, named_field_type}
 use Rattle.ti_lang.specs.Typing.Expressions.{operand_type}
 use Rattle.ti_rules.specs.declared.rule.Rule.TheVariants.{Y1, Y2, Q2}
@@ -26,9 +26,9 @@ is_foreach_variable (x.Variable at v) = is_foreach_use v.declared
 is_foreach_variable e = false
 
 -- a coordinate of a point
-abbrev pub is_coordinate : ProgramView → ScopeContents → NumberedExp → Bool
-is_coordinate p s (x.Index at a parts) = option_map_or is_point (operand_type p s a) false
-is_coordinate p s e = false
+abbrev pub is_point_coordinate : ProgramView → ScopeContents → NumberedExp → Bool
+is_point_coordinate p s (x.Index at a parts) = option_map_or is_point_type (operand_type p s a) false
+is_point_coordinate p s e = false
 
 -- the declared type, if there is one, is local
 abbrev pub maybe_local : Option ValueType → Bool
@@ -54,5 +54,5 @@ is_hidden_local p s e = false
 -- the errors of storing into this target, given the errors of the value; a coordinate can't be stored into at all
 abbrev pub write_refusals : ProgramView → ScopeContents → Place → NumberedExp → List Refusal → List Refusal
 write_refusals p s at target value =
-    if is_coordinate p s target then refusal_at Y1 at else
+    if is_point_coordinate p s target then refusal_at Y1 at else
     (refused_if (is_foreach_variable target) Y2 at ++ refused_if (is_hidden_local p s target) Q2 at) ++ value

@@ -45,8 +45,8 @@ maybe_of view (Some a) = Some (view a)
 abbrev pub grid_of : Brackets → GridTree
 grid_of g = record { dim = g.dim; qualifiers = g.qualifiers.items }
 
-abbrev pub type_of : TypeName → TypeTree
-type_of t = record { base = t.base; qualifiers = t.qualifiers.items; grids = map grid_of t.grids.items }
+abbrev pub type_tree_of : TypeName → TypeTree
+type_tree_of t = record { base = t.base; qualifiers = t.qualifiers.items; grids = map grid_of t.grids.items }
 
 -- ---- expressions
 
@@ -65,7 +65,7 @@ abbrev mutual
   exp_of (e.Rect' at _ ranges) = x.Rect at (rows_of ranges)
   exp_of (e.Unary' at op _ a) = x.Unary at op (exp_of a)
   exp_of (e.Binary' at op _ a _ b) = x.Binary at op (exp_of a) (exp_of b)
-  exp_of (e.Cast' at to _ a) = x.Cast at (type_of to.value) (exp_of a)
+  exp_of (e.Cast' at to _ a) = x.Cast at (type_tree_of to.value) (exp_of a)
   exp_of (e.Select' at _ a name) = x.Select at (exp_of a) name
   exp_of (e.Member' at _ a name _ args) = x.Member at (exp_of a) name (args_of args)
   exp_of (e.Index' at _ a _ parts) = x.Index at (exp_of a) (args_of parts)
@@ -98,7 +98,7 @@ abbrev pub init_of : Init → InitTree
 init_of (i.Value a) = s.Value (exp_of a)
 init_of (i.NewRegion at) = s.NewRegion at
 init_of (i.NewObject at region name_at name) = s.NewObject at (maybe_of exp_of region) name_at name
-init_of (i.NewGrid at region element dims_at dims) = s.NewGrid at (maybe_of exp_of region) (type_of element) dims_at (dims_of dims)
+init_of (i.NewGrid at region element dims_at dims) = s.NewGrid at (maybe_of exp_of region) (type_tree_of element) dims_at (dims_of dims)
 init_of (i.Broadcast at a root) = s.Broadcast at (exp_of a) (exp_of root)
 
 abbrev pub print_of : Printed → PrintTree
@@ -110,7 +110,7 @@ print_of (p.TextAndValue text a) = s.TextAndExpression text (exp_of a)
 abbrev mutual
   pub stm_of : Stmt → Stm
   stm_of t.Empty = s.Empty
-  stm_of (t.Declare at ty name value) = s.Declare at (type_of ty) name (init_of value.value)
+  stm_of (t.Declare at ty name value) = s.Declare at (type_tree_of ty) name (init_of value.value)
   stm_of (t.Assign at target value) = s.Assign at (exp_of target) (init_of value.value)
   stm_of (t.Update at op target a) = s.Update at op (exp_of target) (exp_of a)
   stm_of (t.Step at op target) = s.Step at op (exp_of target)
@@ -144,10 +144,10 @@ stms_of v = map stm_of v.items
 -- ---- classes
 
 abbrev pub field_of : Field → FieldTree
-field_of f = record { modifiers = f.modifiers.items; ty = type_of f.ty; place = f.place; name = f.name }
+field_of f = record { modifiers = f.modifiers.items; ty = type_tree_of f.ty; place = f.place; name = f.name }
 
 abbrev pub param_of : Param → ParamTree
-param_of p = record { ty = type_of p.ty; place = p.place; name = p.name }
+param_of p = record { ty = type_tree_of p.ty; place = p.place; name = p.name }
 
 abbrev pub params_of : Params → ParamsTree
 params_of (params.MainArgs at name) = c.MainArgs at name
@@ -155,7 +155,7 @@ params_of (params.Typed v) = c.Params (map param_of v.items)
 
 abbrev pub result_of : ResultType → ResultTree
 result_of (result.Void at) = c.Void at
-result_of (result.Typed ty) = c.Typed (type_of ty)
+result_of (result.Typed ty) = c.Typed (type_tree_of ty)
 
 abbrev pub method_of : Method → MethodTree
 method_of m = record {

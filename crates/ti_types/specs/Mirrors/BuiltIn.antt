@@ -8,7 +8,7 @@ use Rattle.ti_rules.specs.declared.rule.Rule.TheVariants.{Y1, Y4}
 use Rattle.ti_rules.specs.declared.refusal.Refusal.{Refusal}
 use Rattle.ti_lang.specs.Typing.Alike.{erase_dims}
 use Rattle.ti_rules.specs.Broken.Refused.{refusal_at, operand_refusal}
-use Rattle.ti_rules.specs.Broken.Calls.{has_member, arity, copy_refusals, exchange_refusals, slice_refusals}
+use Rattle.ti_rules.specs.Broken.Calls.{has_member, argument_count, copy_refusals, exchange_refusals, slice_refusals}
 use Rattle.ti_types.specs.Mirrors.Arguments.{ArgumentSummary}
 
 -- the list of `count` types whose first two are these, if there are no more than two
@@ -40,12 +40,12 @@ arguments_by at b t n u v = []
 
 -- the errors of a member's arguments, given that their number is right and their summary is this
 abbrev pub summary_argument_refusals : Place → member.BuiltIn → ValueType → ArgumentSummary → List Refusal
-summary_argument_refusals at b t told = arguments_by at b t (arity b) told.first told.second
+summary_argument_refusals at b t told = arguments_by at b t (argument_count b) told.first told.second
 
 -- the errors of a built-in member with `count` arguments
 abbrev pub summary_built_in_refusals : Place → Option member.BuiltIn → ValueType → ℕ → ArgumentSummary → List Refusal
 summary_built_in_refusals at None t count told = refusal_at Y1 at
 summary_built_in_refusals at (Some b) t count told =
     if not (has_member b t) then refusal_at Y1 at else
-    if not (count == arity b) then refusal_at Y4 at else
+    if not (count == argument_count b) then refusal_at Y4 at else
     summary_argument_refusals at b t told

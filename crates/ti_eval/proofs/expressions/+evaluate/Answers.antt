@@ -9,13 +9,13 @@ use Rattle.ti_lang.specs.Program.Scope.{this_of}
 use Rattle.ti_lang.specs.Program.Views.{expression_of, bound_of, type_use_of}
 use Rattle.ti_lang.specs.Typing.BuiltIn.{BuiltIn}
 use Rattle.ti_lang.specs.Typing.Called.{member_called}
-use Rattle.ti_lang.specs.Typing.Kinds.{is_point}
+use Rattle.ti_lang.specs.Typing.Kinds.{is_point_type}
 use Rattle.ti_lang.specs.Typing.TyRef.{built_in_of}
 use Rattle.ti_lang.specs.Meaning.Held.{Held}
 use Rattle.ti_lang.specs.Meaning.Comp.{CompResult, Gives, bind_result, gives}
 use Rattle.ti_lang.specs.Meaning.Literals as literal
 use Rattle.ti_lang.specs.Meaning.CellRefs.{Field, fetched, indexed}
-use Rattle.ti_lang.specs.Meaning.MemberForms.{member}
+use Rattle.ti_lang.specs.Meaning.MemberForms.{member_value}
 use Rattle.ti_lang.specs.Meaning.Scoping.{Env, type_of, field_selected}
 use Rattle.ti_lang.specs.Meaning.Evaluation.{eval, eval_all, eval_numbers, eval_range, eval_ranges, with_right}
 use Rattle.std.proofs.lemmas.Result.{err_from_is_err_and}
@@ -99,11 +99,11 @@ evaluate-returns-in_ok-h-in-Member t c =
     c.called_member-called.ensures ∙ ap (λ (z : Expr). member_called E.program (this_of E.method) (expression_of z) name) c.deref-in-Member-2.ensures in
     let b = seen_numbered_member c.args.expr.now at c.in-Member.receiver name c.in-Member.args c.in-Member.is in
     subst (λ (w : NumberedExp). Comes c.with_arguments.result (eval E w c.args.answers.now)) (sym b)
-    (subst (λ (g : CompResult Held). Comes c.with_arguments.result (bind_result g (λ k r. bind_result (eval_all E xs r) (λ hs. member at type called through k hs)))) (sym e)
+    (subst (λ (g : CompResult Held). Comes c.with_arguments.result (bind_result g (λ k r. bind_result (eval_all E xs r) (λ hs. member_value at type called through k hs)))) (sym e)
     (subst (λ (ys : List Expr). Comes c.with_arguments.result (bind_result (eval_all E (numbered_exps (map expression_of ys)) rest)
-    (λ hs. member at type called through h hs))) c.deref-in-Member-3.ensures.value
+    (λ hs. member_value at type called through h hs))) c.deref-in-Member-3.ensures.value
     (subst (λ (o : Option BuiltIn). Comes c.with_arguments.result (bind_result (eval_all E (numbered_exps (map expression_of c.deref-in-Member-3.result.now)) rest)
-    (λ hs. member at type o through h hs))) k (c.with_arguments.ensures type through))))
+    (λ hs. member_value at type o through h hs))) k (c.with_arguments.ensures type through))))
 
 pub evaluate-returns-in_ok-h-in-Index : goal.evaluate-returns-in_ok-h-in-Index
 evaluate-returns-in_ok-h-in-Index t c =
@@ -117,13 +117,13 @@ evaluate-returns-in_ok-h-in-Index t c =
     let rest = c.in_ok-h-in-Index.answers.now in
     let e : eval E y c.args.answers.now ≡ Gives h rest = subst (λ (z : Expr). eval E (expression_of z) c.args.answers.now ≡ Gives h rest)
     c.deref-in-Index.ensures c.in_ok-h-in-Index.ensures in
-    let k : c.is_point-is_point.result ≡ is_point through = c.is_point-is_point.ensures ∙ ap (λ (z : Expr). is_point (type_of E (expression_of z))) c.deref-in-Index-2.ensures in
+    let k : c.is_point-is_point.result ≡ is_point_type through = c.is_point-is_point.ensures ∙ ap (λ (z : Expr). is_point_type (type_of E (expression_of z))) c.deref-in-Index-2.ensures in
     let b = seen_numbered_index c.args.expr.now at c.in-Index.receiver c.in-Index.indices c.in-Index.is in
     subst (λ (w : NumberedExp). Comes c.with_indices.result (eval E w c.args.answers.now)) (sym b)
     (subst (λ (g : CompResult Held). Comes c.with_indices.result (bind_result g (λ k r. bind_result (eval_numbers E xs r)
-    (λ ns. indexed (is_point through) at type through k ns)))) (sym e)
+    (λ ns. indexed (is_point_type through) at type through k ns)))) (sym e)
     (subst (λ (ys : List Expr). Comes c.with_indices.result (bind_result (eval_numbers E (numbered_exps (map expression_of ys)) rest)
-    (λ ns. indexed (is_point through) at type through h ns))) c.deref-in-Index-3.ensures.value
+    (λ ns. indexed (is_point_type through) at type through h ns))) c.deref-in-Index-3.ensures.value
     (subst (λ (o : Bool). Comes c.with_indices.result (bind_result (eval_numbers E (numbered_exps (map expression_of c.deref-in-Index-3.result.now)) rest)
     (λ ns. indexed o at type through h ns))) k (c.with_indices.ensures type through))))
 

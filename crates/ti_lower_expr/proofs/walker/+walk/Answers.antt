@@ -5,7 +5,7 @@ use Rattle.ti_lang.specs.declared.program.exprs.Range.{Range}
 use Rattle.ti_lang.specs.Program.Types.{ValueType}
 use Rattle.ti_lang.specs.Program.Expressions.{NumberedExp, NumberedExps, NumberedRanges, numbered_exps, numbered_ranges}
 use Rattle.ti_lang.specs.Program.Views.{program_of, expression_of, bound_of}
-use Rattle.ti_lang.specs.Typing.Kinds.{is_point}
+use Rattle.ti_lang.specs.Typing.Kinds.{is_point_type}
 use Rattle.ti_lang.specs.Typing.TyRef.{ty_view}
 use Rattle.ti_lang.specs.Typing.TextTypes.{how_many}
 use Rattle.ti_lang.proofs.Lemmas.{seen_numbered_rect, seen_numbered_member, seen_numbered_index}
@@ -64,7 +64,7 @@ form-returns-in_ok-walk_all-in-Index-clause-code t c =
     let exps = λ (ys : List Expr). numbered_exps (map expression_of ys) in
     let xs = c.in-Index.indices.items in
     let told = ty_view c.in_ok-t-in-Index.t.ty in
-    let code = λ (u : ValueType) (ys : List Expr). index_code (is_point u) (how_many (exps ys)) at in
+    let code = λ (u : ValueType) (ys : List Expr). index_code (is_point_type u) (how_many (exps ys)) at in
     let first : m ≡ walked_in s a o = subst (λ (z : Expr). m ≡ walked_in s (expression_of z) o) c.deref-in-Index.ensures c.in_ok-t-in-Index.ensures.code in
     let type : told ≡ type_in s a = subst (λ (z : Expr). told ≡ type_in s (expression_of z)) c.deref-in-Index.ensures c.in_ok-t-in-Index.ensures.ty in
     let rest : k ≡ all_in s (exps xs) m = subst (λ (ys : List Expr). k ≡ all_in s (exps ys) m) c.deref-in-Index-2.ensures.value c.in_ok-walk_all-in-Index.ensures.code in

@@ -3,7 +3,7 @@ use Rattle.ti_lang.specs.Program.Expressions.{numbered_exps}
 use Rattle.ti_lang.specs.Program.Scope.{contents_of}
 use Rattle.ti_lang.specs.Program.Views.{program_of, expression_of}
 use Rattle.ti_lang.specs.Typing.Singleness.{is_single_part}
-use Rattle.ti_lang.specs.Typing.Kinds.{is_point}
+use Rattle.ti_lang.specs.Typing.Kinds.{is_point_type}
 use Rattle.ti_lang.specs.Typing.TextTypes.{syntactic_type}
 use Rattle.ti_lang.specs.Typing.Called.{member_called}
 use Rattle.ti_lang.specs.Typing.Singleness.{tells_of_domain}
@@ -35,7 +35,7 @@ is_single_part-returns-in-Index t c =
     (numbered_exps (map expression_of c.in-Index.indices.items)) c.is_point-of_point.result c.is_single_part-part.result
     c.are_single-in-Index.result
     c.all_hold.result c.all_hold.ensures
-    (c.is_point-of_point.ensures ∙ ap is_point (c.syntactic_type.ensures ∙ ap (λ z. syntactic_type p this (expression_of z)) c.deref_expr-receiver.ensures))
+    (c.is_point-of_point.ensures ∙ ap is_point_type (c.syntactic_type.ensures ∙ ap (λ z. syntactic_type p this (expression_of z)) c.deref_expr-receiver.ensures))
     (c.is_single_part-part.ensures ∙ ap (λ z. is_single_part p this singles (expression_of z)) c.deref_expr-receiver.ensures)
     (same_arguments p this singles c.deref_exprs-in-Index.result.now c.in-Index.indices.items c.are_single-in-Index.result c.deref_exprs-in-Index.ensures c.are_single-in-Index.ensures)
     ∙ sym (ap (is_single_part p this singles) (seen_numbered_index c.args.expr.now c.in-Index.place c.in-Index.receiver c.in-Index.indices c.in-Index.is))

@@ -3,7 +3,7 @@ use Rattle.ti_syntax.specs.Trees.Views.{maybe_of}
 use Rattle.ti_lang.specs.Program.Views.{expression_of, type_use_of, extent_of}
 use Rattle.ti_lang.specs.Typing.Expressions.{and_then_both}
 use Rattle.ti_rules.specs.Mirrors.First.{earlier_of, earliest}
-use Rattle.ti_rules.specs.InitialTypes.{region_type, spread, new_grid_type}
+use Rattle.ti_rules.specs.InitialTypes.{region_type, dims_spread, new_grid_type}
 use Rattle.ti_rules.specs.Broken.Refused.{both_judged, operand_refusal}
 use Rattle.ti_rules.specs.Broken.Words.{type_word_refusals}
 use Rattle.ti_rules.specs.Broken.RightSides.{region_refusals, dims_refusals, one_dim_spread}
@@ -21,14 +21,14 @@ returns-clause-ty c =
     let region = region_type p s (maybe_of expression_of c.args.region.now) in
     let element = (type_use_of c.args.element.now).type in
     c.maybe_grid.ensures ∙ ap (λ o. and_then_both o (option_map literal_of c.spread-spread.result.types) (summary_grid_type element)) c.region-region.ensures.ty
-    ∙ ap (λ o. and_then_both region o (summary_grid_type element)) c.spread-spread.ensures.types ∙ grid_told element region (spread p s (extent_of c.args.dims.now))
+    ∙ ap (λ o. and_then_both region o (summary_grid_type element)) c.spread-spread.ensures.types ∙ grid_told element region (dims_spread p s (extent_of c.args.dims.now))
 
 pub returns-clause-first : goal.returns-clause-first
 returns-clause-first c =
     let p = program_at c.args.self in
     let s = scope_at c.args.self in
     let region = region_type p s (maybe_of expression_of c.args.region.now) in
-    let over = spread p s (extent_of c.args.dims.now) in
+    let over = dims_spread p s (extent_of c.args.dims.now) in
     let element = (type_use_of c.args.element.now).type in
     let regions = region_refusals p s (maybe_of expression_of c.args.region.now) in
     let words = type_word_refusals false (type_use_of c.args.element.now) in

@@ -3,7 +3,7 @@ use Rattle.std.proofs.lemmas.Option.{slice_get_read, slice_get_within}
 use Rattle.std.specs.List.{slice_get}
 use Rattle.ti_heap.specs.declared.allocation.Allocation.{Allocation}
 use Rattle.ti_heap.specs.Contents.{Made}
-use Rattle.ti_heap.specs.Things.{put_in, changed_at, values_of, cost_of}
+use Rattle.ti_heap.specs.Things.{put_in, changed_at, values_of, allocation_cost}
 use Rattle.ti_heap.proofs.Lists.{set_changed}
 use Rattle.ti_heap.proofs.Costs.{cost_set, some_and}
 use Rattle.ti_heap.proofs.Puts.{put_made}
@@ -18,7 +18,7 @@ inside c =
 pub invariant_of-self : goal.invariant_of-self
 invariant_of-self c =
     let n = cost_set c.self.inside.things.items c.args.serial c.index_mut-thing.result.now c.put.new.self (inside (goal.at.invariant_of-self c).After-put) c.index_mut-thing.ensures.value in
-    let e = ap (λ (t : Allocation). cost_of t) c.put.ensures ∙ ap (λ (m : Made). m.cost) (put_made c.args.index c.args.value c.index_mut-thing.result.now) in
+    let e = ap (λ (t : Allocation). allocation_cost t) c.put.ensures ∙ ap (λ (m : Made). m.cost) (put_made c.args.index c.args.value c.index_mut-thing.result.now) in
     record { same = omega (arith, n, e, c.self.invariant.same); most = c.self.invariant.most }
 
 pub returns : goal.returns

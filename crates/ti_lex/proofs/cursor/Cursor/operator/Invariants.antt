@@ -1,10 +1,10 @@
 use Rattle.std.proofs.Common.{◌≡◌, length}
-use Rattle.ti_lex.specs.Mirrors.Cursor.{rest}
+use Rattle.ti_lex.specs.Mirrors.Cursor.{unread_bytes}
 use Rattle.ti_lex.specs.Mirrors.Reading.{sign_from}
 use Rattle.ti_lex.proofs.cursor.Cursor.operator.Given as goal
 
 abbrev pub invariant-loop-byte : goal.invariant-loop-byte
-invariant-loop-byte l = record { same : l.self.text ≡ l.initial.self.text; reads : sign_from l.kind l.self.at (rest l.self) ≡ sign_from l.initial.kind l.initial.self.at (rest l.initial.self) }
+invariant-loop-byte l = record { same : l.self.text ≡ l.initial.self.text; reads : sign_from l.kind l.self.at (unread_bytes l.self) ≡ sign_from l.initial.kind l.initial.self.at (unread_bytes l.initial.self) }
 
 abbrev pub decreases-loop-byte : goal.decreases-loop-byte
-decreases-loop-byte l = length (rest l.self)
+decreases-loop-byte l = length (unread_bytes l.self)

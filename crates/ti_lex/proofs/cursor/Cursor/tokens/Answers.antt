@@ -5,7 +5,7 @@ use Rattle.ti_base.specs.Places.{place_of}
 use Rattle.ti_syntax.specs.declared.token.TokenKind.TheVariants as k
 use Rattle.ti_syntax.specs.Tokenizing.{IsTokenized}
 use Rattle.ti_lex.specs.Mirrors.Answers.{Scans}
-use Rattle.ti_lex.specs.Mirrors.Cursor.{rest}
+use Rattle.ti_lex.specs.Mirrors.Cursor.{unread_bytes}
 use Rattle.ti_lex.specs.Mirrors.Reading.{first_lexeme}
 use Rattle.ti_lex.proofs.Texts.{IsReadTo, some, nothing_read, all_read, space_read, token_read, error_read, reads_further}
 use Rattle.ti_lex.proofs.cursor.Cursor.tokens.Goals as goal
@@ -29,7 +29,7 @@ pub loop-byte-preserved-in-Space : goal.loop-byte-preserved-in-Space
 loop-byte-preserved-in-Space c =
     let spot = c.loop-byte.self in
     let more = some spot c.in-Some.byte _ c.in-Some.ensures in
-    let told = subst (λ q. Scans (first_lexeme spot.at (rest spot)) spot c.input_element.new.self (Ok q)) c.in-Space.is c.in_ok-input_element.ensures in
+    let told = subst (λ q. Scans (first_lexeme spot.at (unread_bytes spot)) spot c.input_element.new.self (Ok q)) c.in-Space.is c.in_ok-input_element.ensures in
     space_read c.args.self.now.text c.loop-byte.tokens.items spot c.input_element.new.self c.loop-byte.invariant more told
 
 pub loop-byte-smaller : goal.loop-byte-smaller
@@ -44,7 +44,7 @@ loop-byte-preserved c =
     let spot = c.loop-byte.self in
     let more = some spot c.in-Some.byte _ c.in-Some.ensures in
     let kind = c.in-Token.kind in
-    let told = subst (λ q. Scans (first_lexeme spot.at (rest spot)) spot c.input_element.new.self (Ok q)) c.in-Token.is c.in_ok-input_element.ensures in
+    let told = subst (λ q. Scans (first_lexeme spot.at (unread_bytes spot)) spot c.input_element.new.self (Ok q)) c.in-Token.is c.in_ok-input_element.ensures in
     let read = token_read text before spot c.input_element.new.self c.loop-byte.invariant more kind told in
     let here : place_of text spot.at ≡ c.place-place.result = ap (λ t. place_of t spot.at) (sym c.loop-byte.invariant.same) ∙ sym c.place-place.ensures in
     let added : before ++ record { kind = kind; place = place_of text spot.at } ∷ [] ≡ c.push.new.self.items =

@@ -12,7 +12,7 @@ use Rattle.ti_code.specs.Machine as seen
 use Rattle.ti_code.specs.Machine.{next_step, first}
 use Rattle.ti_machine.specs.declared.machine.StepResult.{StepResult}
 use Rattle.ti_machine.specs.declared.machine.StepResult.TheVariants as turns
-use Rattle.ti_machine.specs.Mirrors.FrameStates.{state_of}
+use Rattle.ti_machine.specs.Mirrors.FrameStates.{local_state_of}
 use Rattle.ti_machine.specs.Mirrors.Instrs.{instrs_at}
 use Rattle.ti_machine.specs.Mirrors.Machines.{machine_of, machine_at, frame_at, below_of, IsStepResult}
 use Rattle.std.proofs.lemmas.List.{append-nil}
@@ -33,7 +33,7 @@ returns c =
     let p = c.args.code.now in
     let m = c.args.self.now in
     let k = c.args.number in
-    let s = state_of m.top.state in
+    let s = local_state_of m.top.state in
     let x = c.index-methods-method.result in
     let q = machine_of p m in
     let f = frame_at p m s in
@@ -43,7 +43,7 @@ returns c =
     let number : c.from.result ≡ x.params = c.from.ensures in
     let args = top_operands x.params s.stack [] in
     let args_are : c.in_ok-slots.slots.items ≡ args = c.in_ok-slots.ensures.args ∙ ap (λ (j : ℕ). top_operands j s.stack []) number in
-    let rest : state_of c.take_args_into.new.self ≡ record s { stack = under x.params s.stack } = c.in_ok-slots.ensures.rest ∙ ap (λ (j : ℕ). record s { stack = under j s.stack }) number in
+    let rest : local_state_of c.take_args_into.new.self ≡ record s { stack = under x.params s.stack } = c.in_ok-slots.ensures.rest ∙ ap (λ (j : ℕ). record s { stack = under j s.stack }) number in
     let own : x.instrs ≡ instrs_at p k = sym (instrs_there p k x found) in
     let instance : x.instance ≡ false = c.if-callee.false in
     let n = c.enter-2.new.self in
@@ -52,7 +52,7 @@ returns c =
     subst (λ (e : Comp seen.StepResult). IfOk r (λ t. IsStepResult p e t (machine_of p n))) (sym (call_is p q f fs k c.args.place x false found instance))
     (ok_map r
     (λ t. (w : Code) (y : MethodCode) (u : LocalState) (o args stack : List Held) → y.instrs ≡ instrs_at w k → reverse c.in_ok-slots.slots.items
-    ≡ reverse args ++ o → state_of c.take_args_into.new.self ≡ record u { stack = stack } → c.args.next ≡ u.at + 1
+    ≡ reverse args ++ o → local_state_of c.take_args_into.new.self ≡ record u { stack = stack } → c.args.next ≡ u.at + 1
     → IsStepResult w (seen.enter_method (machine_at w m u) (frame_at w m u) (below_of w m) c.args.place y o args stack) t (machine_of w n))
     (λ t. IsStepResult p (seen.enter_method q f fs c.args.place x [] args (under x.params s.stack)) t (machine_of p n))
     (λ (t : StepResult). λ h. h p x s [] args (under x.params s.stack) own slots rest c.requires.next)
@@ -63,7 +63,7 @@ returns-in_default c =
     let p = c.args.code.now in
     let m = c.args.self.now in
     let k = c.args.number in
-    let s = state_of m.top.state in
+    let s = local_state_of m.top.state in
     let x = c.index-methods-method.result in
     let q = machine_of p m in
     let f = frame_at p m s in
@@ -73,7 +73,7 @@ returns-in_default c =
     let number : c.from.result ≡ x.params = c.from.ensures in
     let args = top_operands x.params s.stack [] in
     let args_are : c.in_ok-slots.slots.items ≡ args = c.in_ok-slots.ensures.args ∙ ap (λ (j : ℕ). top_operands j s.stack []) number in
-    let rest : state_of c.take_args_into.new.self ≡ record s { stack = under x.params s.stack } = c.in_ok-slots.ensures.rest ∙ ap (λ (j : ℕ). record s { stack = under j s.stack }) number in
+    let rest : local_state_of c.take_args_into.new.self ≡ record s { stack = under x.params s.stack } = c.in_ok-slots.ensures.rest ∙ ap (λ (j : ℕ). record s { stack = under j s.stack }) number in
     let own : x.instrs ≡ instrs_at p k = sym (instrs_there p k x found) in
     let receiver : c.in_ok-receiver.receiver ≡ top (under x.params s.stack) = c.in_ok-receiver.ensures.value ∙ ap (λ (u : LocalState). top u.stack) rest in
     let instance : x.instance ≡ true = c.if-callee.true in
@@ -87,7 +87,7 @@ returns-then-callee c =
     let p = c.args.code.now in
     let m = c.args.self.now in
     let k = c.args.number in
-    let s = state_of m.top.state in
+    let s = local_state_of m.top.state in
     let x = c.index-methods-method.result in
     let q = machine_of p m in
     let f = frame_at p m s in
@@ -97,14 +97,14 @@ returns-then-callee c =
     let number : c.from.result ≡ x.params = c.from.ensures in
     let args = top_operands x.params s.stack [] in
     let args_are : c.in_ok-slots.slots.items ≡ args = c.in_ok-slots.ensures.args ∙ ap (λ (j : ℕ). top_operands j s.stack []) number in
-    let rest : state_of c.take_args_into.new.self ≡ record s { stack = under x.params s.stack } = c.in_ok-slots.ensures.rest ∙ ap (λ (j : ℕ). record s { stack = under j s.stack }) number in
+    let rest : local_state_of c.take_args_into.new.self ≡ record s { stack = under x.params s.stack } = c.in_ok-slots.ensures.rest ∙ ap (λ (j : ℕ). record s { stack = under j s.stack }) number in
     let own : x.instrs ≡ instrs_at p k = sym (instrs_there p k x found) in
     let receiver : c.in_ok-receiver.receiver ≡ top (under x.params s.stack) = c.in_ok-receiver.ensures.value ∙ ap (λ (u : LocalState). top u.stack) rest in
     let instance : x.instance ≡ true = c.if-callee.true in
     let n = c.enter.new.self in
     let r = c.enter.result in
     let this = c.in-Some.this in
-    let rest2 : state_of c.pop-then-callee.new.self ≡ record s { stack = below (under x.params s.stack) } = c.in_ok-receiver.ensures.rest
+    let rest2 : local_state_of c.pop-then-callee.new.self ≡ record s { stack = below (under x.params s.stack) } = c.in_ok-receiver.ensures.rest
     ∙ ap (λ (u : LocalState). record { at = u.at; slots = u.slots; stack = below u.stack }) rest in
     let some : referent_of (top (under x.params s.stack)) ≡ Some this = sym (ap referent_of receiver) ∙ sym c.in-Some.ensures in
     let slots : reverse c.insert.new.self.items ≡ reverse args ++ Plain (v.Obj (Some this)) ∷ [] =
@@ -112,7 +112,7 @@ returns-then-callee c =
     subst (λ (e : Comp seen.StepResult). IfOk r (λ t. IsStepResult p e t (machine_of p n))) (sym (call_is p q f fs k c.args.place x true found instance ∙ call_on q f fs c.args.place x this some))
     (ok_map r
     (λ t. (w : Code) (y : MethodCode) (u : LocalState) (o args stack : List Held) → y.instrs ≡ instrs_at w k → reverse c.insert.new.self.items
-    ≡ reverse args ++ o → state_of c.pop-then-callee.new.self ≡ record u { stack = stack } → c.args.next ≡ u.at + 1
+    ≡ reverse args ++ o → local_state_of c.pop-then-callee.new.self ≡ record u { stack = stack } → c.args.next ≡ u.at + 1
     → IsStepResult w (seen.enter_method (machine_at w m u) (frame_at w m u) (below_of w m) c.args.place y o args stack) t (machine_of w n))
     (λ t. IsStepResult p (seen.enter_method q f fs c.args.place x (Plain (v.Obj (Some this)) ∷ []) args (below (under x.params s.stack))) t (machine_of p n))
     (λ (t : StepResult). λ h. h p x s (Plain (v.Obj (Some this)) ∷ []) args (below (under x.params s.stack)) own slots rest2 c.requires.next)

@@ -6,7 +6,7 @@ use Rattle.ti_code.specs.declared.code.MethodCode.{MethodCode}
 use Rattle.ti_code.specs.Forms.{IsFormedInstr, IsFormedMethod}
 use Rattle.ti_code.specs.Machine as seen
 use Rattle.ti_code.specs.Machine.{next_step, first}
-use Rattle.ti_machine.specs.Mirrors.FrameStates.{state_of}
+use Rattle.ti_machine.specs.Mirrors.FrameStates.{local_state_of}
 use Rattle.ti_machine.specs.Mirrors.Instrs.{instrs_at}
 use Rattle.ti_machine.specs.Mirrors.Machines.{machine_of, frame_at, below_of, IsStepResult}
 use Rattle.std.specs.Prelude.{pos, All}
@@ -71,5 +71,5 @@ returns c =
     let instr = get_or c.as_slice-instrs.result.now at (i.Const (v.Int (pos 0))) in
     let first : slice_get c.as_slice-instrs.result.now at ≡ Some instr = there_or c.as_slice-instrs.result.now at (i.Const (v.Int (pos 0))) c.if-at-instrs.false in
     let stands = subst (λ (is : List Instr). slice_get is at ≡ Some instr) same first in
-    subst (λ (o : Option Instr). IfOk c.act.result (λ t. IsStepResult p (seen.execute p (machine_of p m) (frame_at p m (state_of m.top.state))
+    subst (λ (o : Option Instr). IfOk c.act.result (λ t. IsStepResult p (seen.execute p (machine_of p m) (frame_at p m (local_state_of m.top.state))
     (below_of p m) o) t (machine_of p c.act.new.self))) (sym stands) c.act.ensures

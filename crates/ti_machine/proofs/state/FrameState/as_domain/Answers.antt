@@ -1,6 +1,6 @@
 use Rattle.std.proofs.Common.{subst}
 use Rattle.ti_code.specs.Effects.{top, below}
-use Rattle.ti_machine.specs.Mirrors.FrameStates.{state_of, ValueOutcome}
+use Rattle.ti_machine.specs.Mirrors.FrameStates.{local_state_of, ValueOutcome}
 use Rattle.ti_lang.specs.Meaning.Conversions.{to_domain}
 use Rattle.ti_lang.proofs.Lemmas.{to_domain_silent}
 use Rattle.ti_machine.proofs.Tellings.{silent_tells}
@@ -8,7 +8,7 @@ use Rattle.ti_machine.proofs.state.FrameState.as_domain.Goals as goal
 
 pub returns : goal.returns
 returns c w =
-    let s = state_of c.args.self.now in
+    let s = local_state_of c.args.self.now in
     let at = c.args.place in
     let h = c.in_ok-h.h in
     let r = c.value_of-got.result in

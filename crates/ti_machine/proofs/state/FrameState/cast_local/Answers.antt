@@ -1,7 +1,7 @@
 use Rattle.std.proofs.Common.{subst}
 use Rattle.ti_lang.specs.Program.Types.{Class}
 use Rattle.ti_code.specs.Effects.{top, below}
-use Rattle.ti_machine.specs.Mirrors.FrameStates.{state_of, ValueOutcome}
+use Rattle.ti_machine.specs.Mirrors.FrameStates.{local_state_of, ValueOutcome}
 use Rattle.std.specs.Prelude.{true}
 use Rattle.ti_lang.specs.Meaning.Evaluation.{kept_local}
 use Rattle.ti_lang.proofs.Lemmas.{kept_silent}
@@ -10,7 +10,7 @@ use Rattle.ti_machine.proofs.state.FrameState.cast_local.Goals as goal
 
 pub returns : goal.returns
 returns c rs =
-    let s = state_of c.args.self.now in
+    let s = local_state_of c.args.self.now in
     let at = c.args.place in
     let n = c.args.team.number in
     let h = c.in_ok-h.h in

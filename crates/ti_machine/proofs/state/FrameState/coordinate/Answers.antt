@@ -2,7 +2,7 @@ use Rattle.std.proofs.Common.{◌≡◌, ◌∙◌, ap, subst, ℕ, []}
 use Rattle.ti_lang.specs.Program.Types.{Void}
 use Rattle.ti_lang.specs.Meaning.Held.{point_of}
 use Rattle.ti_code.specs.Effects.{LocalState, top, below, under, top_operands, numbers_of}
-use Rattle.ti_machine.specs.Mirrors.FrameStates.{state_of, ValueOutcome}
+use Rattle.ti_machine.specs.Mirrors.FrameStates.{local_state_of, ValueOutcome}
 use Rattle.std.specs.Prelude.{pos, slice_index_or}
 use Rattle.ti_lang.specs.Meaning.CellRefs.{coordinate}
 use Rattle.ti_lang.proofs.Lemmas.{silent_coordinate}
@@ -11,12 +11,12 @@ use Rattle.ti_machine.proofs.state.FrameState.coordinate.Goals as goal
 
 pub returns : goal.returns
 returns c w =
-    let s = state_of c.args.self.now in
+    let s = local_state_of c.args.self.now in
     let at = c.args.place in
     let n : c.from.result ≡ c.args.count = c.from.ensures in
     let taken_is : c.in_ok-args.args.items ≡ top_operands c.args.count s.stack [] = c.in_ok-args.ensures.args ∙ ap (λ (k : ℕ). top_operands k s.stack []) n in
-    let rest : state_of c.take_args.new.self ≡ record s { stack = under c.args.count s.stack } = c.in_ok-args.ensures.rest ∙ ap (λ (k : ℕ). record s { stack = under k s.stack }) n in
-    let popped : state_of c.pop.new.self ≡ record s { stack = below (under c.args.count s.stack) } =
+    let rest : local_state_of c.take_args.new.self ≡ record s { stack = under c.args.count s.stack } = c.in_ok-args.ensures.rest ∙ ap (λ (k : ℕ). record s { stack = under k s.stack }) n in
+    let popped : local_state_of c.pop.new.self ≡ record s { stack = below (under c.args.count s.stack) } =
     c.in_ok-h.ensures.rest ∙ ap (λ (u : LocalState). record { at = u.at; slots = u.slots; stack = below u.stack }) rest in
     let value : c.in_ok-h.h ≡ top (under c.args.count s.stack) = c.in_ok-h.ensures.value ∙ ap (λ (u : LocalState). top u.stack) rest in
     let h = c.in_ok-h.h in

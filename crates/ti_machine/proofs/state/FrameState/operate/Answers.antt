@@ -1,6 +1,6 @@
 use Rattle.std.proofs.Common.{subst}
 use Rattle.ti_code.specs.Effects.{top, below, binary_operator_of}
-use Rattle.ti_machine.specs.Mirrors.FrameStates.{state_of, ValueOutcome}
+use Rattle.ti_machine.specs.Mirrors.FrameStates.{local_state_of, ValueOutcome}
 use Rattle.ti_lang.specs.Meaning.Operators.{apply_binary}
 use Rattle.ti_lang.proofs.Lemmas.{operated_silent}
 use Rattle.ti_machine.proofs.Tellings.{silent_tells}
@@ -8,7 +8,7 @@ use Rattle.ti_machine.proofs.state.FrameState.operate.Goals as goal
 
 pub returns : goal.returns
 returns c w =
-    let s = state_of c.args.self.now in
+    let s = local_state_of c.args.self.now in
     let at = c.args.place in
     let o = c.operator.result in
     let x = c.in_ok-x.x in

@@ -6,14 +6,14 @@ use Rattle.ti_lang.specs.Nodes.{node, MethodName, result_nodes, params_nodes, st
 use Rattle.ti_rules.specs.Mirrors.First.{earlier_of}
 use Rattle.ti_names.specs.Found.{first_in}
 use Rattle.ti_names.specs.MethodDecl.{method_decl_of}
-use Rattle.ti_names.specs.Seen.{context_of}
+use Rattle.ti_names.specs.Seen.{site_of}
 use Rattle.ti_names.proofs.Firsts.{in_append}
 use Rattle.ti_names.proofs.context.NameContext.method.Goals as goal
 
 pub returns-clause-refusal : goal.returns-clause-refusal
 returns-clause-refusal c =
     let own = method_decl_of c.args.own in
-    let site = context_of c.args.self.now in
+    let site = site_of c.args.self.now in
     let head = node site (MethodName c.args.number own) ∷ result_nodes site own.method.result in
     let params = params_nodes site own.method.params in
     let body = stms_nodes (body_site site own.method.params) (stms own.method.body) in
