@@ -10,8 +10,8 @@ use Rattle.ti_code.specs.declared.instr.Operation.{Operation}
 use Rattle.ti_code.specs.declared.instr.Operation.TheVariants as o
 use Rattle.ti_code.specs.declared.instr.OneOperand.{OneOperand}
 use Rattle.ti_code.specs.declared.instr.OneOperand.TheVariants as one
-use Rattle.ti_code.specs.declared.instr.Member.{Member}
-use Rattle.ti_code.specs.declared.instr.Member.TheVariants as kind
+use Rattle.ti_code.specs.declared.instr.ValueMember.{ValueMember}
+use Rattle.ti_code.specs.declared.instr.ValueMember.TheVariants as kind
 use Rattle.ti_code.specs.Programs.{Code}
 
 -- ---- names
@@ -48,7 +48,7 @@ unary_word one.Neg = codes "neg"
 unary_word one.Com = codes "com"
 unary_word one.Not = codes "not"
 
-abbrev pub member_word : Member → List ℕ
+abbrev pub member_word : ValueMember → List ℕ
 member_word kind.Size = codes "size"
 member_word kind.Min = codes "min"
 member_word kind.Max = codes "max"
@@ -126,7 +126,7 @@ operation_part o.DomUnion at = place_part at
 operation_part op at = []
 
 -- Of members, each but `contains` shows its place.
-abbrev pub member_part : Member → Place → List ℕ
+abbrev pub member_part : ValueMember → Place → List ℕ
 member_part kind.Contains at = []
 member_part k at = place_part at
 

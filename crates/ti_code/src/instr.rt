@@ -47,7 +47,7 @@ pub enum OneOperand {
 
 /// A built-in member that has a value: of a domain, or of a grid.
 #[derive(Clone, Copy)]
-pub enum Member {
+pub enum ValueMember {
     Size,
     Min,
     Max,
@@ -107,7 +107,7 @@ pub enum Instr {
     /// Converts a rectangular domain to a general domain.
     ToDom(Place),
     /// Evaluates a built-in member with the given number of arguments.
-    Member(Member, u32, Place),
+    Member(ValueMember, u32, Place),
     /// Cast to a local reference: a fault unless it is null or refers to an object of the process itself.
     CastLocal(Place),
     Jump(u32),

@@ -8,5 +8,5 @@ mod text;
 mod words;
 
 pub use code::{Code, Instrs, MethodCode};
-pub use instr::{Instr, Member, OneOperand, Operation};
+pub use instr::{Instr, OneOperand, Operation, ValueMember};
 pub use text::code_text;

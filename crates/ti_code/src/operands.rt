@@ -5,7 +5,7 @@ ghost use Rattle.std.specs.Prelude.{◌≡◌, ◌+◌, ◌≤◌, ◌++◌, len
 ghost use Rattle.ti_watch.specs.Lines.{line_room};
 ghost use Rattle.ti_code.specs.CodeText as text;
 
-use crate::instr::{Instr, Member, Operation};
+use crate::instr::{Instr, Operation, ValueMember};
 use ti_base::{CollKind, Place, Zero};
 use ti_watch::{Line, collective_name};
 
@@ -84,20 +84,20 @@ fn add_operation(line: &mut Line, operation: Operation, place: Place)
 }
 
 // Appends the place of a member, if the listing shows it: of each but `contains`.
-fn add_member(line: &mut Line, member: Member, place: Place)
+fn add_member(line: &mut Line, member: ValueMember, place: Place)
     requires { length line.old + 22 ≤ line_room }
     ensures text { line.new ≡ line.old ++ text.member_part member place }
     ensures bound { length line.new ≤ length line.old + 22 }
 {
     match member {
-        Member::Contains => {}
-        Member::Size
-        | Member::Min
-        | Member::Max
-        | Member::DomainOf
-        | Member::Restrict
-        | Member::Translate
-        | Member::Slice => add_place(line, place),
+        ValueMember::Contains => {}
+        ValueMember::Size
+        | ValueMember::Min
+        | ValueMember::Max
+        | ValueMember::DomainOf
+        | ValueMember::Restrict
+        | ValueMember::Translate
+        | ValueMember::Slice => add_place(line, place),
     }
 }
 

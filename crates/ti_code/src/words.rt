@@ -3,7 +3,7 @@
 ghost use Rattle.std.specs.Prelude.{◌≡◌, ◌≤◌, length};
 ghost use Rattle.ti_code.specs.CodeText as text;
 
-use crate::instr::{Instr, Member, OneOperand, Operation};
+use crate::instr::{Instr, OneOperand, Operation, ValueMember};
 
 // The name of a binary operator.
 fn operation_word(operation: Operation) -> &'static [u8]
@@ -52,19 +52,19 @@ fn one_word(operator: OneOperand) -> &'static [u8]
 }
 
 // The name of a built-in member.
-fn member_word(member: Member) -> &'static [u8]
+fn member_word(member: ValueMember) -> &'static [u8]
     ensures word { result.now ≡ text.member_word member }
     ensures short { length result.now ≤ 14 }
 {
     match member {
-        Member::Size => b"size",
-        Member::Min => b"min",
-        Member::Max => b"max",
-        Member::Contains => b"contains",
-        Member::DomainOf => b"domainOf",
-        Member::Restrict => b"view restrict",
-        Member::Translate => b"view translate",
-        Member::Slice => b"view slice",
+        ValueMember::Size => b"size",
+        ValueMember::Min => b"min",
+        ValueMember::Max => b"max",
+        ValueMember::Contains => b"contains",
+        ValueMember::DomainOf => b"domainOf",
+        ValueMember::Restrict => b"view restrict",
+        ValueMember::Translate => b"view translate",
+        ValueMember::Slice => b"view slice",
     }
 }
 

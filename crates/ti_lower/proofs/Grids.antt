@@ -32,7 +32,7 @@ use Rattle.ti_lang.specs.Meaning.Turns.{turns_at}
 use Rattle.ti_code.specs.declared.instr.Instr.{Instr}
 use Rattle.ti_code.specs.declared.instr.Instr.TheVariants as i
 use Rattle.ti_code.specs.declared.instr.Operation.TheVariants as o
-use Rattle.ti_code.specs.declared.instr.Member.TheVariants as kind
+use Rattle.ti_code.specs.declared.instr.ValueMember.TheVariants as kind
 use Rattle.ti_code.specs.Effects.{LocalState, Who, effect, top, below, slot, under, common_domain}
 use Rattle.ti_code.specs.Leading.{CodeAt, pc_after, effect_of, here}
 use Rattle.ti_code.specs.Machine.{arrival_of}

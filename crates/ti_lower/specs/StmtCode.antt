@@ -22,7 +22,7 @@ use Rattle.ti_lang.specs.Meaning.Zeros.{zero_of_type}
 use Rattle.ti_code.specs.declared.instr.Instr.{Instr}
 use Rattle.ti_code.specs.declared.instr.Instr.TheVariants as i
 use Rattle.ti_code.specs.declared.instr.Operation.TheVariants as o
-use Rattle.ti_code.specs.declared.instr.Member.TheVariants as kind
+use Rattle.ti_code.specs.declared.instr.ValueMember.TheVariants as kind
 use Rattle.ti_code.specs.Leading.{pc_after}
 use Rattle.ti_lower_expr.specs.Slots.{Name, Of, Point}
 use Rattle.ti_lower_expr.specs.declared.kinds.OperandClass.TheVariants.{Numbers}

@@ -17,7 +17,7 @@ use crate::calls::{CallSite, call, call_site, number_called};
 use crate::emit_context::{EmitContext, slot_count};
 use crate::values::{value, values};
 use ti_base::{CollKind, Memory, Place, Value};
-use ti_code::{Instr, Member, Operation};
+use ti_code::{Instr, Operation, ValueMember};
 use ti_lang::program::{Expr, ResultType, Ty};
 use ti_lang::typing::{BuiltIn, TyRef, member_called, syntactic_type};
 use ti_lower_expr::{add_pops, emit, u32_sum};
@@ -69,11 +69,11 @@ fn grids(place: Place, first: usize, out: &mut Vec<Instr>) -> Result<(), Memory>
         Instr::Operate(Operation::Eq, place),
         Instr::JumpIfNot(there),
         Instr::Load(read),
-        Instr::Member(Member::DomainOf, 0, place),
+        Instr::Member(ValueMember::DomainOf, 0, place),
         Instr::Load(written),
-        Instr::Member(Member::DomainOf, 0, place),
+        Instr::Member(ValueMember::DomainOf, 0, place),
         Instr::Load(read),
-        Instr::Member(Member::DomainOf, 0, place),
+        Instr::Member(ValueMember::DomainOf, 0, place),
         Instr::Common,
     ])?;
     Ok(())
@@ -185,7 +185,7 @@ fn exchange_arrival(place: Place, first: usize, out: &mut Vec<Instr>) -> Result<
         Instr::Keep(value),
         Instr::Keep(written),
         Instr::Load(written),
-        Instr::Member(Member::DomainOf, 0, place),
+        Instr::Member(ValueMember::DomainOf, 0, place),
         Instr::GridTest(place),
         Instr::Load(value),
         Instr::Arrive(CollKind::Exchange, place),

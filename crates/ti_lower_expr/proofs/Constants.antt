@@ -24,7 +24,7 @@ use Rattle.ti_lang.specs.Meaning.Scoping.{zero_declared}
 use Rattle.ti_code.specs.declared.instr.Instr.{Instr}
 use Rattle.ti_code.specs.declared.instr.Instr.TheVariants as i
 use Rattle.ti_code.specs.declared.instr.Operation.{Operation}
-use Rattle.ti_code.specs.declared.instr.Member.{Member}
+use Rattle.ti_code.specs.declared.instr.ValueMember.{ValueMember}
 use Rattle.ti_code.specs.Forms.{IsFormedInstr}
 use Rattle.ti_lower_expr.specs.Slots.{Name, find_slot, has_this}
 use Rattle.ti_lower_expr.specs.declared.kinds.OperandClass.{OperandClass}
@@ -154,7 +154,7 @@ pub pops_come : (n : ℕ) → AllCome (pops n)
 pops_come zero = simple_come refl
 pops_come (suc n) = then_come refl (pops_come n)
 
-kind_comes : (m : Option Member) (n : ℕ) (at : Place) → AllCome (kind_code m n at)
+kind_comes : (m : Option ValueMember) (n : ℕ) (at : Place) → AllCome (kind_code m n at)
 kind_comes (Some k) n at = simple_come refl
 kind_comes None n at = both_come (pops_come (suc n)) (simple_come refl)
 

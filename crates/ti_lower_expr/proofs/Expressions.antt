@@ -33,8 +33,8 @@ use Rattle.ti_code.specs.declared.instr.Instr.{Instr}
 use Rattle.ti_code.specs.declared.instr.Instr.TheVariants as i
 use Rattle.ti_code.specs.declared.instr.Operation.{Operation}
 use Rattle.ti_code.specs.declared.instr.OneOperand.TheVariants as one
-use Rattle.ti_code.specs.declared.instr.Member.{Member}
-use Rattle.ti_code.specs.declared.instr.Member.TheVariants as kind
+use Rattle.ti_code.specs.declared.instr.ValueMember.{ValueMember}
+use Rattle.ti_code.specs.declared.instr.ValueMember.TheVariants as kind
 use Rattle.ti_code.specs.Effects.{binary_operator_of, built_in_member, LocalState, Who, effect, numbers_of, one_step, range_bounds, rect_of_ranges, under, top, below}
 use Rattle.ti_code.specs.Leading.{CodeAt, pc_after}
 use Rattle.ti_lower_expr.specs.Slots.{Name, SlotsHold, find_slot, has_this}
@@ -312,7 +312,7 @@ module _ (c : List Instr) (env : Env) (names : List Name) (slots : List Held) (h
   member_alike p a x y b.Exchange h hs rs = alike_itself who c (member_value p a (Some b.Exchange) x h hs rs)
   member_alike p a x y b.Delete h hs rs = alike_itself who c (member_value p a (Some b.Delete) x h hs rs)
 
-  kind_does : (k : Member) (p : Place) (type through : ValueType) (n : ℕ) (h : Held) (hs : List Held) (at : ℕ) (stack : List Held) → length hs ≡ n → CodeAt c at (i.Member k n p ∷ [])
+  kind_does : (k : ValueMember) (p : Place) (type through : ValueType) (n : ℕ) (h : Held) (hs : List Held) (at : ℕ) (stack : List Held) → length hs ≡ n → CodeAt c at (i.Member k n p ∷ [])
       → Implements who c (state at (pushed hs (h ∷ stack))) (member_value p type (Some (built_in_member k)) through h hs) (Pushes (at + 1) stack)
   kind_does k p type through n h hs at stack z st =
       does_one who c (Pushes (at + 1) stack) (state at (pushed hs (h ∷ stack))) (member_value p type (Some (built_in_member k)) through h hs) (member_value p t.Void (Some (built_in_member k)) t.Void h hs)

@@ -18,7 +18,7 @@ use Rattle.ti_lang.specs.Meaning.Held.{Held, Plain, Dm}
 use Rattle.ti_lang.specs.Meaning.Scoping.{zero_declared}
 use Rattle.ti_code.specs.declared.instr.Instr.{Instr}
 use Rattle.ti_code.specs.declared.instr.Operation.{Operation}
-use Rattle.ti_code.specs.declared.instr.Member.{Member}
+use Rattle.ti_code.specs.declared.instr.ValueMember.{ValueMember}
 use Rattle.ti_code.specs.Leading.{CodeAt, pc_after}
 use Rattle.ti_code.specs.JumpRule.{jump_target_of, takes_tick, no_jump_and, leads_to_tick, jump_fits, jumps_fit_from}
 use Rattle.ti_lower_expr.specs.Slots.{Name, find_slot, has_this}
@@ -180,7 +180,7 @@ pub pops_fit : {all : List Instr} (n : ℕ) {from : ℕ} → Fits all from (pops
 pops_fit zero = fits_jumpless refl
 pops_fit (suc n) = fits_next refl (pops_fit n)
 
-kind_fits : {all : List Instr} {from : ℕ} (m : Option Member) (n : ℕ) (at : Place) → Fits all from (kind_code m n at)
+kind_fits : {all : List Instr} {from : ℕ} (m : Option ValueMember) (n : ℕ) (at : Place) → Fits all from (kind_code m n at)
 kind_fits (Some k) n at = fits_jumpless refl
 kind_fits None n at = fits_both (pops_fit (suc n)) (fits_jumpless refl)
 

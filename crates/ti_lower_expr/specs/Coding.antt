@@ -24,8 +24,8 @@ use Rattle.ti_code.specs.declared.instr.Instr.TheVariants as i
 use Rattle.ti_code.specs.declared.instr.Operation.{Operation}
 use Rattle.ti_code.specs.declared.instr.Operation.TheVariants as o
 use Rattle.ti_code.specs.declared.instr.OneOperand.TheVariants as one
-use Rattle.ti_code.specs.declared.instr.Member.{Member}
-use Rattle.ti_code.specs.declared.instr.Member.TheVariants as kind
+use Rattle.ti_code.specs.declared.instr.ValueMember.{ValueMember}
+use Rattle.ti_code.specs.declared.instr.ValueMember.TheVariants as kind
 use Rattle.ti_code.specs.Leading.{pc_after}
 use Rattle.ti_lower_expr.specs.declared.kinds.OperandClass.{OperandClass}
 use Rattle.ti_lower_expr.specs.declared.kinds.OperandClass.TheVariants.{Numbers, Points, Rects, Domains}
@@ -154,7 +154,7 @@ operator_code (Where left) name p at right = lazy_code left at right
 -- ---- members
 
 -- The member as an instruction knows it, if it has a value.
-abbrev pub member_kind : b.BuiltIn → Option Member
+abbrev pub member_kind : b.BuiltIn → Option ValueMember
 member_kind b.Size = Some kind.Size
 member_kind b.Min = Some kind.Min
 member_kind b.Max = Some kind.Max
@@ -170,11 +170,11 @@ abbrev pub pops : ℕ → List Instr
 pops zero = []
 pops (suc n) = i.Pop ∷ pops n
 
-abbrev pub kind_code : Option Member → ℕ → Place → List Instr
+abbrev pub kind_code : Option ValueMember → ℕ → Place → List Instr
 kind_code (Some k) n at = i.Member k n at ∷ []
 kind_code None n at = pops (suc n) ++ i.Const (v.Bool false) ∷ []
 
-abbrev pub shown_member : Option b.BuiltIn → Option Member
+abbrev pub shown_member : Option b.BuiltIn → Option ValueMember
 shown_member (Some m) = member_kind m
 shown_member None = None
 

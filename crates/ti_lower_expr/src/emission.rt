@@ -20,7 +20,7 @@ ghost use Rattle.ti_lower_expr.specs.Contents.{names_in, BeginsWith};
 use crate::kinds::{OperandClass, StaticRepr};
 use crate::slots::Slots;
 use ti_base::{Memory, Place, Point, Rect, Value};
-use ti_code::{Instr, Member, OneOperand};
+use ti_code::{Instr, OneOperand, ValueMember};
 use ti_lang::program::{Declared, Expr, Ty, Variable};
 use ti_lang::tree::UnaryOperator;
 use ti_lang::typing::TyRef;
@@ -383,7 +383,7 @@ fn add_no_member(count: usize, out: &mut Vec<Instr>) -> Result<(), Memory>
 
 /// Appends a member after its receiver and `count` arguments.
 pub fn add_member(
-    member: Option<Member>,
+    member: Option<ValueMember>,
     count: usize,
     place: Place,
     out: &mut Vec<Instr>,

@@ -9,7 +9,7 @@ ghost use Rattle.ti_lang.specs.Typing.TyRef.{ty_view, built_in_of};
 ghost use Rattle.ti_lower_expr.specs.Coding as coding;
 ghost use Rattle.ti_lower_expr.specs.Knowing as knowing;
 
-use ti_code::{Member, Operation};
+use ti_code::{Operation, ValueMember};
 use ti_lang::program::{Declared, Expr, ProgramData, Ty};
 use ti_lang::tree::{BinaryOperator, UnaryOperator};
 use ti_lang::typing::{BuiltIn, TyRef, member_called, syntactic_type};
@@ -155,18 +155,18 @@ pub fn operation_of(operator: BinaryOperator, left: OperandClass, right: Operand
 }
 
 // The built-in member as an instruction knows it, if it has a value.
-fn member_instr(member: BuiltIn) -> Option<Member>
+fn member_instr(member: BuiltIn) -> Option<ValueMember>
     ensures { result ≡ coding.member_kind (built_in_of member) }
 {
     match member {
-        BuiltIn::Size => Some(Member::Size),
-        BuiltIn::Min => Some(Member::Min),
-        BuiltIn::Max => Some(Member::Max),
-        BuiltIn::Contains => Some(Member::Contains),
-        BuiltIn::Domain => Some(Member::DomainOf),
-        BuiltIn::Restrict => Some(Member::Restrict),
-        BuiltIn::Translate => Some(Member::Translate),
-        BuiltIn::Slice => Some(Member::Slice),
+        BuiltIn::Size => Some(ValueMember::Size),
+        BuiltIn::Min => Some(ValueMember::Min),
+        BuiltIn::Max => Some(ValueMember::Max),
+        BuiltIn::Contains => Some(ValueMember::Contains),
+        BuiltIn::Domain => Some(ValueMember::DomainOf),
+        BuiltIn::Restrict => Some(ValueMember::Restrict),
+        BuiltIn::Translate => Some(ValueMember::Translate),
+        BuiltIn::Slice => Some(ValueMember::Slice),
         BuiltIn::Copy => None,
         BuiltIn::Exchange => None,
         BuiltIn::Delete => None,
@@ -174,7 +174,7 @@ fn member_instr(member: BuiltIn) -> Option<Member>
 }
 
 /// The called member as an instruction knows it, if there is one and it has a value.
-pub fn shown_member(called: Option<BuiltIn>) -> Option<Member>
+pub fn shown_member(called: Option<BuiltIn>) -> Option<ValueMember>
     ensures { result ≡ coding.shown_member (option_map built_in_of called) }
 {
     match called {

@@ -15,7 +15,7 @@ use crate::domains::{bounds, intersection, numbers_of};
 use crate::state::FrameState;
 use std::alloc::Global;
 use ti_base::{FaultKind, Place, Value};
-use ti_code::{Member, OneOperand, Operation};
+use ti_code::{OneOperand, Operation, ValueMember};
 use ti_eval::{
     CanonicalAnswer, Interrupt, Rank, VarValue, apply_binary, apply_unary, as_int, as_long,
     check_local, index_value, is_rect_of_procs, member, point_of_numbers, rect_of_procs,
@@ -68,18 +68,18 @@ fn unary_operator(operation: OneOperand) -> UnaryOperator
     }
 }
 
-fn built_in(member: Member) -> BuiltIn
+fn built_in(member: ValueMember) -> BuiltIn
     ensures { built_in_of result ≡ built_in_member member }
 {
     match member {
-        Member::Size => BuiltIn::Size,
-        Member::Min => BuiltIn::Min,
-        Member::Max => BuiltIn::Max,
-        Member::Contains => BuiltIn::Contains,
-        Member::DomainOf => BuiltIn::Domain,
-        Member::Restrict => BuiltIn::Restrict,
-        Member::Translate => BuiltIn::Translate,
-        Member::Slice => BuiltIn::Slice,
+        ValueMember::Size => BuiltIn::Size,
+        ValueMember::Min => BuiltIn::Min,
+        ValueMember::Max => BuiltIn::Max,
+        ValueMember::Contains => BuiltIn::Contains,
+        ValueMember::DomainOf => BuiltIn::Domain,
+        ValueMember::Restrict => BuiltIn::Restrict,
+        ValueMember::Translate => BuiltIn::Translate,
+        ValueMember::Slice => BuiltIn::Slice,
     }
 }
 
@@ -291,7 +291,7 @@ impl FrameState {
     pub(crate) fn member(
         &mut self,
         alloc: Global,
-        kind: Member,
+        kind: ValueMember,
         count: u32,
         place: Place,
         next: usize,

@@ -25,7 +25,7 @@ use Rattle.ti_code.specs.contracts.code.Code as code
 use Rattle.ti_code.specs.contracts.code.Instrs as instrs
 use Rattle.ti_code.specs.contracts.code.MethodCode as method
 use Rattle.ti_code.specs.contracts.instr.Instr as instr
-use Rattle.ti_code.specs.contracts.instr.Member as member
+use Rattle.ti_code.specs.contracts.instr.ValueMember as member
 use Rattle.ti_code.specs.contracts.instr.OneOperand as one_operand
 use Rattle.ti_code.specs.contracts.instr.Operation as operation
 use Rattle.ti_machine.proofs.Lemmas.{process_send}
