@@ -21,7 +21,7 @@ use Rattle.ti_blame.specs.declared.reason.Reason.{Reason}
 use Rattle.ti_blame.specs.declared.mark.Mark.{Mark}
 use Rattle.ti_blame.specs.declared.implication.Conclusion.{Conclusion}
 use Rattle.ti_blame.specs.declared.implication.Implication.{Implication}
-use Rattle.ti_infer.specs.declared.site.StmtSite.{StmtSite}
+use Rattle.ti_infer.specs.declared.constraints.site.StmtSite.{StmtSite}
 use Rattle.ti_infer.specs.Reason.{reasons_of_maybe, return_reasons}
 use Rattle.ti_infer.specs.Mirrors.Implications.{each, condition_edges, loop_targets, inside_foreach, variables_foreach, method_edges, methods_edges}
 use Rattle.ti_infer.specs.Mirrors.Sites.{program_at, method_of_site, inside_of, dependencies_at}

@@ -6,8 +6,8 @@ ghost use Rattle.ti_infer.specs.Stripped.{stripped};
 ghost use Rattle.ti_infer.specs.Answer.{GivesInferred};
 ghost use Rattle.ti_infer.specs.Mirrors.Solution.{AreInferred};
 
-use crate::methods::program_edges;
-use crate::whole_program::{candidate_marks, fits};
+use crate::constraints::methods::program_edges;
+use crate::constraints::whole_program::{candidate_marks, fits};
 use std::alloc::Global;
 use std::marker::Model;
 use thiserror::Error;

@@ -5,7 +5,7 @@ ghost use Rattle.ti_lang.specs.Program.Views.{type_use_of, statement_of, numbere
 ghost use Rattle.ti_single.specs.Mirrors.Maybe.{maybe_in};
 ghost use Rattle.ti_infer.specs.Mirrors.Locals.{local_of, locals_in, locals_in_maybe, locals_in_all};
 
-use crate::fits::accepts_single;
+use crate::constraints::fits::accepts_single;
 use std::alloc::Global;
 use ti_base::{Memory, Place};
 use ti_lang::program::{Method, Stmt, TypeUse};

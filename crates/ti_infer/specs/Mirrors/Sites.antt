@@ -16,8 +16,8 @@ use Rattle.ti_lang.specs.Typing.TextTypes.{syntactic_type}
 use Rattle.ti_lang.specs.Typing.Called.{called_method, member_called}
 use Rattle.ti_lang.specs.Typing.Singleness.{tells_of_domain}
 use Rattle.ti_rules.specs.SingleRules.{is_delete}
-use Rattle.ti_infer.specs.declared.site.MethodSite.{MethodSite}
-use Rattle.ti_infer.specs.declared.site.VariableDeps.{VariableDeps}
+use Rattle.ti_infer.specs.declared.constraints.site.MethodSite.{MethodSite}
+use Rattle.ti_infer.specs.declared.constraints.site.VariableDeps.{VariableDeps}
 use Rattle.ti_infer.specs.Mirrors.Dependencies.{plain_if, dependencies, all_dependencies, range_dependencies, ranges_dependencies}
 use Rattle.ti_infer.specs.Mirrors.Implications.{inside_at, one_each, call_edges}
 

@@ -8,8 +8,8 @@ use Rattle.ti_blame.specs.declared.mark.Mark.{Mark}
 use Rattle.ti_blame.specs.declared.implication.Conclusion.{Conclusion}
 use Rattle.ti_blame.specs.declared.implication.Conclusion.TheVariants.{One}
 use Rattle.ti_blame.specs.declared.implication.Implication.{Implication}
-use Rattle.ti_infer.specs.declared.site.MethodSite.{MethodSite}
-use Rattle.ti_infer.specs.declared.site.StmtSite.{StmtSite}
+use Rattle.ti_infer.specs.declared.constraints.site.MethodSite.{MethodSite}
+use Rattle.ti_infer.specs.declared.constraints.site.StmtSite.{StmtSite}
 use Rattle.ti_infer.specs.Mirrors.Implications.{own_edges, edges, edges_of_maybe, edges_all, inside_foreach, variables_foreach}
 use Rattle.ti_infer.specs.Mirrors.Sites.{program_at, method_of_site, inside_of}
 

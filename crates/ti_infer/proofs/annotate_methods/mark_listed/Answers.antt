@@ -1,9 +1,0 @@
-use Rattle.std.proofs.Common.{arith}
-use Rattle.ti_lang.specs.Program.Views.{numbered_param_of}
-use Rattle.ti_blame.specs.Marks.{marks_of}
-use Rattle.ti_infer.specs.Marked.{marked_param}
-use Rattle.ti_infer.proofs.Turning.{turned}
-use Rattle.ti_infer.proofs.annotate_methods.mark_listed.Goals as goal
-
-pub returns : goal.returns
-returns c = turned numbered_param_of (marked_param (marks_of c.args.marks.now)) _ _ c.loop-i.invariant.len (λ k d lt. c.loop-i.invariant.done k d (omega (arith, c.len-i-end.ensures)))

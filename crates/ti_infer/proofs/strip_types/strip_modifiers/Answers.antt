@@ -1,9 +1,0 @@
-use Rattle.std.proofs.Common.{rules}
-use Rattle.std.specs.Prelude.{not}
-use Rattle.std.proofs.lemmas.Fn.{filter_same}
-use Rattle.ti_syntax.specs.declared.tree.classes.Modifier.{Modifier}
-use Rattle.ti_lang.specs.Members.{is_single_word}
-use Rattle.ti_infer.proofs.strip_types.strip_modifiers.Goals as goal
-
-pub returns : goal.returns
-returns c = filter_same _ (λ (word : Modifier). not (is_single_word word.word)) _ (λ x b q h. search rules) _ _ c.retain.ensures.filtered

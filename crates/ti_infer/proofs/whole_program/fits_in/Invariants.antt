@@ -1,7 +1,0 @@
-use Rattle.std.proofs.Common.{◌≡◌, ◌++◌, map, flat_map, drop}
-use Rattle.ti_lang.specs.Program.Views.{numbered_method_of}
-use Rattle.ti_infer.specs.Mirrors.Fits.{method_fit_edges}
-use Rattle.ti_infer.proofs.whole_program.fits_in.Given as goal
-
-abbrev pub invariant-loop-m : goal.invariant-loop-m
-invariant-loop-m l = l.out.items ++ flat_map method_fit_edges (map numbered_method_of (drop l.m-index l.methods)) ≡ l.fn.out.items ++ flat_map method_fit_edges (map numbered_method_of l.methods)
