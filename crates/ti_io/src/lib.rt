@@ -7,18 +7,16 @@
 mod faults;
 mod files;
 mod gate;
-mod memory_sink;
-mod memory_source;
+mod memory;
 mod piece;
-mod schedule;
 mod sink;
 mod source;
 mod streams;
 
 pub use files::FileSource;
 pub use gate::{Gate, HoldGate, OpenGate};
-pub use memory_sink::MemSink;
-pub use memory_source::MemSource;
+pub use memory::sink::MemSink;
+pub use memory::source::MemSource;
 pub use piece::write_piece;
 pub use sink::Sink;
 pub use source::{Failed, Source};

@@ -3,12 +3,12 @@ use denote.Param.Send.{IsSend, owning_send, sendable}
 use Rattle.std.proofs.Crossing.{crosses}
 use Rattle.ti_eval.proofs.var_value.VarValue.TheSendSync as held
 use Rattle.ti_eval.proofs.rank.Rank.TheSendSync as team
-use Rattle.ti_machine.specs.contracts.state.FrameState as FrameState
+use Rattle.ti_machine.specs.contracts.frame.state.FrameState as FrameState
 use Rattle.ti_machine.specs.contracts.machine.Frame as Frame
 use Rattle.ti_machine.specs.contracts.machine.Machine as Machine
 use Rattle.ti_machine.specs.contracts.history.ProcHistory as ProcHistory
 use Rattle.ti_machine.specs.contracts.proc.Proc as Proc
-use Rattle.ti_machine.proofs.operand.StackOperand.TheSendSync as operand
+use Rattle.ti_machine.proofs.frame.operand.StackOperand.TheSendSync as operand
 use Rattle.ti_machine.proofs.proc.ProcState.TheSendSync as state
 
 -- what only clauses see owns nothing

@@ -14,8 +14,8 @@ ghost use Rattle.ti_machine.specs.Mirrors.FrameStates.{local_state_of, apply_ans
 ghost use Rattle.ti_machine.specs.Mirrors.Instrs.{stays, instrs_at};
 ghost use Rattle.ti_machine.specs.Mirrors.Machines.{machine_of, after_answer, RequestsAt, IsStepResult, IsInstrResult, IsLocalResult, IsCallResult};
 
-use crate::operand::StackOperand;
-use crate::state::{AnswerUse, FrameState};
+use crate::frame::operand::StackOperand;
+use crate::frame::state::{AnswerUse, FrameState};
 use std::alloc::Global;
 use std::mem;
 use ti_base::{Action, Answer, FaultKind, Memory, Next, Place, Value};

@@ -5,9 +5,9 @@ ghost use Rattle.std.specs.Option.{option_map_or};
 ghost use Rattle.ti_eval.specs.Forms.{IsFormedAnswer};
 ghost use Rattle.ti_machine.specs.ProcView.{is_act, HasNext, CanAdvance, IsFar, HasFinished};
 
+use crate::frame::state::AnswerUse;
 use crate::history::ProcHistory;
 use crate::machine::Machine;
-use crate::state::AnswerUse;
 use std::alloc::Global;
 use std::marker::Model;
 use ti_base::{Answer, Memory, Next};

@@ -8,8 +8,8 @@ ghost use Rattle.ti_code.specs.Machine.{first};
 ghost use Rattle.ti_machine.specs.Mirrors.Machines.{machine_of};
 ghost use Rattle.ti_machine.specs.Mirrors.RunLoop.{IsSuspension, LiesFar};
 
+use crate::frame::state::{AnswerUse, FrameState};
 use crate::machine::{Frame, Machine, StepResult};
-use crate::state::{AnswerUse, FrameState};
 use std::alloc::Global;
 use ti_base::{Memory, Next};
 use ti_code::Code;

@@ -36,7 +36,7 @@ use Rattle.ti_store.specs.declared.run_config.RunConfigOf as terms
 use Rattle.ti_turnstile.proofs.Lemmas as of_turnstile
 use Rattle.ti_turnstile.specs.contracts.turnstile.Turnstile as turnstile
 use Rattle.ti_turnstile.specs.declared.kept.Kept as kept
-use Rattle.ti_runtime.specs.contracts.task.Task as task
+use Rattle.ti_runtime.specs.contracts.threads.task.Task as task
 use Rattle.ti_pending.specs.contracts.pending.PendingProc as pending
 use Rattle.ti_runtime.specs.declared.code_of.CodeOf as code_of
 

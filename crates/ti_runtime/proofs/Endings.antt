@@ -12,9 +12,9 @@ use Rattle.ti_lang.specs.Meaning.Runs as run
 use Rattle.ti_align.specs.Alignment.{NoneStuck}
 use Rattle.ti_code.specs.Programs.{Code}
 use Rattle.ti_machine.specs.ProcView.{HasFinished}
-use Rattle.ti_runtime.specs.declared.cursor.SoloCursor.{SoloCursor}
+use Rattle.ti_runtime.specs.declared.solo.cursor.SoloCursor.{SoloCursor}
 use Rattle.ti_pending.specs.declared.pending.PendingProc.{PendingProc}
-use Rattle.ti_runtime.specs.declared.step.RunStop.TheVariants as stop
+use Rattle.ti_runtime.specs.declared.solo.step.RunStop.TheVariants as stop
 use Rattle.ti_runtime.specs.declared.runner.How.TheVariants as how
 use Rattle.ti_runtime.specs.declared.runner.RunEnd.{RunEnd}
 use Rattle.ti_pending.specs.Views.{proc_view_after}

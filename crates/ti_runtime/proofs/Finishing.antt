@@ -12,7 +12,7 @@ use Rattle.ti_lang.specs.Meaning.Runs.{IsRun, none, more, AllEnded}
 use Rattle.ti_lang.proofs.Lemmas.{taker}
 use Rattle.ti_store.proofs.Lemmas.{fault_more, end_more}
 use Rattle.ti_code.specs.Programs.{Code}
-use Rattle.ti_runtime.specs.declared.cursor.SoloCursor.{SoloCursor}
+use Rattle.ti_runtime.specs.declared.solo.cursor.SoloCursor.{SoloCursor}
 use Rattle.ti_pending.specs.declared.pending.PendingProc.{PendingProc}
 use Rattle.ti_runtime.specs.declared.runner.How.TheVariants as how
 use Rattle.ti_pending.specs.UpToDate.{AllUpToDate}

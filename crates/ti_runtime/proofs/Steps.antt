@@ -13,9 +13,9 @@ use Rattle.ti_pending.specs.declared.pending.PendingProc.{PendingProc}
 use Rattle.ti_pending.specs.UpToDate.{with_awaits, IsUpToDate}
 use Rattle.ti_pending.specs.Acting.{next_action, steps_left, Progresses, CodePremises, RefusalLeaves}
 use Rattle.ti_pending.proofs.Lemmas.{seated_here, went_from, refused_from}
-use Rattle.ti_runtime.specs.declared.cursor.TurnOutcome.{TurnOutcome}
-use Rattle.ti_runtime.specs.declared.cursor.TurnOutcome.TheVariants as turn
-use Rattle.ti_runtime.specs.declared.step.RunStop.TheVariants as stop
+use Rattle.ti_runtime.specs.declared.solo.cursor.TurnOutcome.{TurnOutcome}
+use Rattle.ti_runtime.specs.declared.solo.cursor.TurnOutcome.TheVariants as turn
+use Rattle.ti_runtime.specs.declared.solo.step.RunStop.TheVariants as stop
 use Rattle.ti_runtime.specs.Mirrors.Processes.{IsOpen, DoesNothing, TurnLeaves}
 
 -- `here` is the process at its next action

@@ -15,12 +15,12 @@ use Rattle.ti_store.specs.Conditions.{IsWithinRunLimits}
 use Rattle.ti_store.specs.Stores.{StoreState, config_of}
 use Rattle.ti_store.proofs.Lemmas.{fault_more, end_more}
 use Rattle.ti_code.specs.Programs.{Code}
-use Rattle.ti_runtime.specs.declared.cursor.SoloCursor.{SoloCursor}
-use Rattle.ti_runtime.specs.declared.cursor.TurnOutcome.{TurnOutcome}
-use Rattle.ti_runtime.specs.declared.cursor.TurnOutcome.TheVariants as turn
+use Rattle.ti_runtime.specs.declared.solo.cursor.SoloCursor.{SoloCursor}
+use Rattle.ti_runtime.specs.declared.solo.cursor.TurnOutcome.{TurnOutcome}
+use Rattle.ti_runtime.specs.declared.solo.cursor.TurnOutcome.TheVariants as turn
 use Rattle.ti_pending.specs.declared.pending.PendingProc.{PendingProc}
-use Rattle.ti_runtime.specs.declared.step.RunStop.{RunStop}
-use Rattle.ti_runtime.specs.declared.step.RunStop.TheVariants as stop
+use Rattle.ti_runtime.specs.declared.solo.step.RunStop.{RunStop}
+use Rattle.ti_runtime.specs.declared.solo.step.RunStop.TheVariants as stop
 use Rattle.ti_pending.specs.UpToDate.{IsBlocked, IsUpToDate}
 use Rattle.ti_runtime.specs.Mirrors.Waiting.{IsBlockedOrEnded}
 use Rattle.ti_pending.specs.Acting.{TakesEntry, steps_left, all_steps_left, Progresses}

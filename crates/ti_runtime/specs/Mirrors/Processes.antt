@@ -9,13 +9,13 @@ use Rattle.ti_align.specs.Alignment.{IsAlignedRun, OfEveryRun}
 use Rattle.ti_align.specs.Stopping.{RoundsBalance}
 use Rattle.ti_store.specs.Stores.{StoreState, config_of}
 use Rattle.ti_code.specs.Programs.{Code}
-use Rattle.ti_runtime.specs.declared.cursor.SoloCursor.{SoloCursor}
-use Rattle.ti_runtime.specs.declared.cursor.TurnOutcome.{TurnOutcome}
-use Rattle.ti_runtime.specs.declared.cursor.TurnOutcome.TheVariants as turn
+use Rattle.ti_runtime.specs.declared.solo.cursor.SoloCursor.{SoloCursor}
+use Rattle.ti_runtime.specs.declared.solo.cursor.TurnOutcome.{TurnOutcome}
+use Rattle.ti_runtime.specs.declared.solo.cursor.TurnOutcome.TheVariants as turn
 use Rattle.ti_pending.specs.declared.pending.PendingProc.{PendingProc}
-use Rattle.ti_runtime.specs.declared.step.RunStop.{RunStop}
-use Rattle.ti_runtime.specs.declared.step.RunStop.TheVariants as stop
-use Rattle.ti_runtime.specs.declared.scheduler.SoloScheduler.{SoloScheduler}
+use Rattle.ti_runtime.specs.declared.solo.step.RunStop.{RunStop}
+use Rattle.ti_runtime.specs.declared.solo.step.RunStop.TheVariants as stop
+use Rattle.ti_runtime.specs.declared.solo.scheduler.SoloScheduler.{SoloScheduler}
 use Rattle.ti_runtime.specs.declared.runner.How.{How}
 use Rattle.ti_runtime.specs.declared.runner.How.TheVariants as how
 use Rattle.ti_pending.specs.UpToDate.{IsUpToDate, AllUpToDate, IsBlocked}

@@ -1,7 +1,7 @@
 use Rattle.std.proofs.Common.{◌≡◌, ◌∙◌, sym, ap, subst, true, false, ℕ, ◌+◌, ◌≤◌, length, List, [], ◌∷◌, ◌++◌, reverse, slice_get, Some, None, IfOk}
 use Rattle.ti_base.specs.declared.entry.Next.TheVariants as next
 use Rattle.ti_base.specs.declared.fault.FaultKind.TheVariants.{NullRef}
-use Rattle.ti_machine.specs.declared.state.AnswerUse.TheVariants.{Ignore}
+use Rattle.ti_machine.specs.declared.frame.state.AnswerUse.TheVariants.{Ignore}
 use Rattle.ti_lang.specs.Meaning.Comp.{Comp}
 use Rattle.ti_lang.specs.Meaning.Held.{Held, Plain, referent_of}
 use Rattle.ti_base.specs.declared.value.Value.TheVariants as v
