@@ -1,15 +1,17 @@
 -- The typing result of each form of expression is proved correct, given those of its parts.
-use Rattle.std.proofs.Common.{◌≡◌, ℕ, false, List, [], ◌∷◌, ◌++◌, map, flat_map, length, slice_get, Option, Some, None, is_some, option_map, option_and_then, refl, sym, ap, ◌∙◌}
+use Rattle.std.proofs.Common.{◌≡◌, ℕ, suc, false, List, [], ◌∷◌, ◌++◌, map, flat_map, length, slice_get, Option, Some, None, is_some, option_map, option_and_then, refl, sym, ap, ◌∙◌}
 use Rattle.ti_base.specs.declared.place.Place.{Place}
+use Rattle.ti_lang.specs.declared.program.exprs.Expr.{Expr}
 use Rattle.ti_lang.specs.Program.Types.{ValueType, Pt}
-use Rattle.ti_lang.specs.Program.Expressions.{NumberedExp, NumberedExps, NumberedRanges, place_of_numbered}
+use Rattle.ti_lang.specs.Program.Expressions.{NumberedExp, NumberedExps, NumberedRanges, numbered_exps, place_of_numbered}
 use Rattle.ti_lang.specs.Program.Expressions as x
 use Rattle.ti_lang.specs.Program.Classes.{NumberedMethod, ProgramView}
 use Rattle.ti_lang.specs.Program.Scope.{ScopeContents}
+use Rattle.ti_lang.specs.Program.Views.{expression_of}
 use Rattle.ti_syntax.specs.declared.tree.exprs.BinaryOperator.{BinaryOperator}
 use Rattle.ti_lang.specs.Typing.Kinds.{where_true}
 use Rattle.ti_lang.specs.Typing.Operators.{binary_type}
-use Rattle.ti_lang.specs.Typing.Expressions.{ExprTyping, plain, operand, and_then_both, all_ints, point_literal, rect_literal, range_count, index_type, select_type, called, member_typing, type_result, operands, bounds}
+use Rattle.ti_lang.specs.Typing.Expressions.{ExprTyping, plain, operand, and_then_both, all_ints, point_literal, rect_literal, range_count, index_type, called, member_typing, type_result, operands, bounds}
 use Rattle.ti_rules.specs.declared.refusal.Refusal.{Refusal}
 use Rattle.ti_rules.specs.Mirrors.First.{earlier_of, earliest}
 use Rattle.ti_lang.specs.Typing.Alike.{erase_dims}
@@ -20,16 +22,22 @@ use Rattle.ti_rules.specs.Broken.Calls.{call_refusals, member_refusals}
 use Rattle.ti_rules.specs.Broken.Expressions.{places_of, refusals_at, exp_refusals, other_indices}
 use Rattle.ti_rules.proofs.Lemmas.{first_append, first_append_each, first_node, count_places}
 use Rattle.ti_types.specs.declared.typed_expr.TypedExpr.{TypedExpr}
-use Rattle.ti_types.specs.declared.arguments.Arguments.{Arguments}
-use Rattle.ti_types.specs.declared.rects.TypedRanges.{TypedRanges}
+use Rattle.ti_types.specs.declared.operands.Operands.{Operands}
 use Rattle.ti_types.specs.Results.{typed_of, IsTypedExpr}
-use Rattle.ti_types.specs.Mirrors.Arguments.{ArgumentSummary, summary, summary_of, parameter_types, summary_call_refusal, summary_call}
-use Rattle.ti_types.specs.Mirrors.Nodes.{summary_index_type, summary_other_indices, member_method, summary_member, summary_member_refusal, RangeSummary, range_summary_of, ranges_summary, summary_rect_type, summary_fits_other_dims}
-use Rattle.ti_types.specs.Mirrors.Walk.{AreTypedArguments, AreTypedRanges}
+use Rattle.ti_types.specs.Mirrors.Arguments.{OperandSummary, summary, summary_of, parameter_types, summary_call_refusal, summary_call}
+use Rattle.ti_types.specs.Mirrors.Nodes.{summary_index_type, summary_other_indices, member_method, summary_member, summary_member_refusal, summary_rect_type, summary_fits_other_dims}
+use Rattle.ti_types.specs.Mirrors.Walk.{AreTypedOperands, operands_in}
 use Rattle.ti_types.proofs.Summaries.{called_is, refusal_is}
+use Rattle.ti_types.proofs.Walked.{ranges_told}
 use Rattle.ti_types.proofs.NodeSummaries.{index_is, other_is, behind_is, behind_refusal_is, rect_is, rect_refusal_is}
 
 -- ---- what counts at a node
+
+-- an expression has a position
+pub count_args : (xs : List Expr) → length xs
+    ≡ length (places_of (numbered_exps (map expression_of xs)))
+count_args [] = refl
+count_args (x ∷ rest) = ap suc (count_args rest)
 
 -- an expression behind its parts, with what is misplaced in it and what else is wrong with it
 node : (p : ProgramView) (s : ScopeContents) (e : NumberedExp) (before : List NumberedExp) (placed rule : List Refusal)
@@ -44,52 +52,61 @@ node p s e before placed rule inner places own found is_parts is_at is_inner is_
 -- ---- calls
 
 -- what is known of arguments
-known_call : (p : ProgramView) (s : ScopeContents) (xs : NumberedExps) (m : Option NumberedMethod) (a : Arguments) (count : ℕ)
-    (k : ExprTyping) → AreTypedArguments p s xs (parameter_types m) a → count ≡ length (places_of xs) → k
+known_call : (p : ProgramView) (s : ScopeContents) (xs : NumberedExps) (m : Option NumberedMethod)
+    (a : Operands) (count : ℕ)
+    (k : ExprTyping) → AreTypedOperands p s xs (parameter_types m) a → count ≡ length (places_of xs)
+    → k
     ≡ summary_call m count (option_map summary_of a.types)
     → k ≡ called m (operands p s xs)
 known_call p s xs m a count k are is_count is =
     is ∙ ap (summary_call m count) are.2 ∙ called_is (places_of xs) m (operands p s xs) count is_count (count_places p s xs)
 
-wrong_call : (p : ProgramView) (s : ScopeContents) (at : Place) (xs : NumberedExps) (m : Option NumberedMethod) (a : Arguments)
-    (count : ℕ) (own : Option Refusal) → AreTypedArguments p s xs (parameter_types m) a → count ≡ length (places_of xs)
+wrong_call : (p : ProgramView) (s : ScopeContents) (at : Place) (xs : NumberedExps)
+    (m : Option NumberedMethod) (a : Operands)
+    (count : ℕ) (own : Option Refusal) → AreTypedOperands p s xs (parameter_types m) a → count
+    ≡ length (places_of xs)
     → own ≡ summary_call_refusal at (places_of xs) m None count (option_map summary_of a.types) → own ≡ earliest (judged (operands p s xs) (λ ts. call_refusals at (places_of xs) m ts))
 wrong_call p s at xs m a count own are is_count is =
     is ∙ ap (summary_call_refusal at (places_of xs) m None count) are.2 ∙ refusal_is at (places_of xs) m (operands p s xs) count is_count (count_places p s xs)
 
-pub call_form : (p : ProgramView) (s : ScopeContents) (at : Place) (number : ℕ) (xs : NumberedExps) (m : Option NumberedMethod)
-    (a : Arguments) (count : ℕ) (own j : TypedExpr) → m ≡ slice_get p.methods number → AreTypedArguments p s xs (parameter_types m) a
+-- a call, of either form
+pub call_form : (p : ProgramView) (s : ScopeContents) (e : NumberedExp) (at : Place) (number : ℕ)
+    (xs : NumberedExps)
+    (m : Option NumberedMethod) (a : Operands) (count : ℕ) (own j : TypedExpr) → parts e
+    ≡ parts_of_all xs ++ e ∷ []
+    → refusals_at p s e ≡ all_misplaced p s xs
+    ++ judged (operands p s xs)
+    (λ ts. call_refusals at (places_of xs) (slice_get p.methods number) ts)
+    → type_result p s e ≡ called (slice_get p.methods number) (operands p s xs)
+    → m ≡ slice_get p.methods number → AreTypedOperands p s xs (parameter_types m) a
     → count ≡ length (places_of xs) → typed_of own ≡ summary_call m count (option_map summary_of a.types) → own.first ≡ summary_call_refusal at (places_of xs) m None count (option_map summary_of a.types)
-    → typed_of j ≡ typed_of own → j.first ≡ earlier_of a.inner (earlier_of a.misplaced own.first) → IsTypedExpr p s (x.Call at number xs) j
-call_form p s at number xs m a count own j is_m are is_count is_known is_own is_typed is_first = (
-  is_typed ∙ known_call p s xs m a count (typed_of own) are is_count is_known ∙ ap (λ o. called o (operands p s xs)) is_m,
-  node p s (x.Call at number xs) (parts_of_all xs) (all_misplaced p s xs)
-      (judged (operands p s xs) (λ ts. call_refusals at (places_of xs) (slice_get p.methods number) ts)) a.inner a.misplaced own.first
-      j.first refl refl are.0 are.1
-      (wrong_call p s at xs m a count own.first are is_count is_own ∙ ap (λ o. earliest (judged (operands p s xs) (λ ts. call_refusals at (places_of xs) o ts))) is_m) is_first,
-)
-
-pub own_call_form : (p : ProgramView) (s : ScopeContents) (at : Place) (number : ℕ) (xs : NumberedExps) (m : Option NumberedMethod)
-    (a : Arguments) (count : ℕ) (own j : TypedExpr) → m ≡ slice_get p.methods number → AreTypedArguments p s xs (parameter_types m) a
-    → count ≡ length (places_of xs) → typed_of own ≡ summary_call m count (option_map summary_of a.types) → own.first ≡ summary_call_refusal at (places_of xs) m None count (option_map summary_of a.types)
-    → typed_of j ≡ typed_of own → j.first ≡ earlier_of a.inner (earlier_of a.misplaced own.first) → IsTypedExpr p s (x.OwnCall at number xs) j
-own_call_form p s at number xs m a count own j is_m are is_count is_known is_own is_typed is_first = (
-  is_typed ∙ known_call p s xs m a count (typed_of own) are is_count is_known ∙ ap (λ o. called o (operands p s xs)) is_m,
-  node p s (x.OwnCall at number xs) (parts_of_all xs) (all_misplaced p s xs)
-      (judged (operands p s xs) (λ ts. call_refusals at (places_of xs) (slice_get p.methods number) ts)) a.inner a.misplaced own.first
-      j.first refl refl are.0 are.1
-      (wrong_call p s at xs m a count own.first are is_count is_own ∙ ap (λ o. earliest (judged (operands p s xs) (λ ts. call_refusals at (places_of xs) o ts))) is_m) is_first,
-)
+    → typed_of j ≡ typed_of own → j.first ≡ earlier_of a.inner (earlier_of a.misplaced own.first)
+    → IsTypedExpr p s e j
+call_form p s e at number xs m a count own j is_parts is_at is_type is_m are is_count is_known
+    is_own is_typed is_first = (
+      is_typed ∙ known_call p s xs m a count (typed_of own) are is_count is_known
+          ∙ ap (λ o. called o (operands p s xs)) is_m ∙ sym is_type,
+      node p s e (parts_of_all xs) (all_misplaced p s xs)
+          (judged (operands p s xs)
+          (λ ts. call_refusals at (places_of xs) (slice_get p.methods number) ts)) a.inner
+          a.misplaced own.first
+          j.first is_parts is_at are.0 are.1
+          (wrong_call p s at xs m a count own.first are is_count is_own
+          ∙ ap (λ o. earliest
+          (judged (operands p s xs) (λ ts. call_refusals at (places_of xs) o ts))) is_m) is_first,
+    )
 
 -- ---- points and ranges
 
 point_is : (places : List Place) (o : Option (List ValueType)) (count : ℕ) → ((ts : List ValueType) → o ≡ Some ts → count ≡ length ts)
-    → option_and_then (λ (t : ArgumentSummary). where_true t.ints (Pt count)) (option_map (summary places []) o) ≡ option_and_then point_literal o
+    → option_and_then (λ (t : OperandSummary). where_true t.ints (Pt count))
+    (option_map (summary places []) o) ≡ option_and_then point_literal o
 point_is places None count same = refl
 point_is places (Some ts) count same = ap (λ n. where_true (all_ints ts) (Pt n)) (same ts refl)
 
 point_refusal_is : (at : Place) (places : List Place) (o : Option (List ValueType))
-    → judged (option_map (summary places []) o) (λ (t : ArgumentSummary). operand_refusal at t.ints false)
+    → judged (option_map (summary places []) o)
+    (λ (t : OperandSummary). operand_refusal at t.ints false)
     ≡ judged o (λ ts. operand_refusal at (all_ints ts) false)
 point_refusal_is at places None = refl
 point_refusal_is at places (Some ts) = refl
@@ -97,55 +114,74 @@ point_refusal_is at places (Some ts) = refl
 plain_same : (a c : Option ValueType) → a ≡ c → plain a ≡ plain c
 plain_same a c e = ap (λ o. let k : ExprTyping = record { type = o; is_call = false } in k) e
 
-pub point_form : (p : ProgramView) (s : ScopeContents) (at : Place) (xs : NumberedExps) (a : Arguments) (count : ℕ) (own j : TypedExpr) → AreTypedArguments p s xs [] a → count ≡ length (places_of xs)
-    → typed_of own ≡ plain (option_and_then (λ (t : ArgumentSummary). where_true t.ints (Pt count)) (option_map summary_of a.types)) → own.first
-    ≡ earliest (judged (option_map summary_of a.types) (λ (t : ArgumentSummary). operand_refusal at t.ints false))
+pub point_form : (p : ProgramView) (s : ScopeContents) (at : Place) (xs : NumberedExps)
+    (a : Operands) (count : ℕ) (own j : TypedExpr) → AreTypedOperands p s xs [] a → count
+    ≡ length (places_of xs)
+    → typed_of own ≡ plain (option_and_then (λ (t : OperandSummary). where_true t.ints (Pt count))
+    (option_map summary_of a.types)) → own.first
+    ≡ earliest
+    (judged (option_map summary_of a.types)
+    (λ (t : OperandSummary). operand_refusal at t.ints false))
     → typed_of j ≡ typed_of own → j.first ≡ earlier_of a.inner (earlier_of a.misplaced own.first) → IsTypedExpr p s (x.Point at xs) j
 point_form p s at xs a count own j are is_count is_known is_own is_typed is_first = (
-  is_typed ∙ is_known ∙ ap (λ o. plain (option_and_then (λ (t : ArgumentSummary). where_true t.ints (Pt count)) o)) are.2
-      ∙ plain_same (option_and_then (λ (t : ArgumentSummary). where_true t.ints (Pt count))
+  is_typed ∙ is_known
+      ∙ ap (λ o. plain (option_and_then (λ (t : OperandSummary). where_true t.ints (Pt count)) o))
+      are.2
+      ∙ plain_same (option_and_then (λ (t : OperandSummary). where_true t.ints (Pt count))
       (option_map (summary (places_of xs) []) (operands p s xs))) (option_and_then point_literal (operands p s xs))
       (point_is (places_of xs) (operands p s xs) count (λ ts e. is_count ∙ count_places p s xs ts e)),
   node p s (x.Point at xs) (parts_of_all xs) (all_misplaced p s xs) (judged (operands p s xs) (λ ts. operand_refusal at (all_ints ts) false)) a.inner a.misplaced own.first j.first refl refl are.0 are.1
-      (is_own ∙ ap (λ o. earliest (judged o (λ (t : ArgumentSummary). operand_refusal at t.ints false))) are.2 ∙ ap earliest (point_refusal_is at (places_of xs) (operands p s xs))) is_first,
+      (is_own ∙ ap
+      (λ o. earliest (judged o (λ (t : OperandSummary). operand_refusal at t.ints false))) are.2
+      ∙ ap earliest (point_refusal_is at (places_of xs) (operands p s xs))) is_first,
 )
 
-pub rect_form : (p : ProgramView) (s : ScopeContents) (at : Place) (rs : NumberedRanges) (b : TypedRanges) (count : ℕ) (own j : TypedExpr) → AreTypedRanges p s rs b → count ≡ range_count rs
-    → typed_of own ≡ plain (option_and_then (summary_rect_type count) (option_map range_summary_of b.types)) → own.first
-    ≡ earliest (judged (option_map range_summary_of b.types) (λ (e : RangeSummary). operand_refusal at (is_some (summary_rect_type count e)) (summary_fits_other_dims count e)))
-    → typed_of j ≡ typed_of own → j.first ≡ earlier_of b.inner (earlier_of b.misplaced own.first) → IsTypedExpr p s (x.Rect at rs) j
-rect_form p s at rs b count own j are is_count is_known is_own is_typed is_first = (
-  is_typed ∙ is_known ∙ ap (λ o. plain (option_and_then (summary_rect_type count) o)) are.2 ∙ ap (λ n. plain (option_and_then (summary_rect_type n) (ranges_summary p s rs))) is_count
-      ∙ plain_same (option_and_then (summary_rect_type (range_count rs)) (ranges_summary p s rs)) (option_and_then (rect_literal (range_count rs)) (bounds p s rs)) (rect_is p s rs),
-  node p s (x.Rect at rs) (parts_of_ranges rs) (bounds_misplaced p s rs)
-      (judged (bounds p s rs) (λ ts. operand_refusal at (is_some (rect_literal (range_count rs) ts))
-      (is_some (rect_literal (range_count rs) (map erase_dims ts))))) b.inner b.misplaced own.first j.first refl refl are.0 are.1
-      (is_own ∙ ap (λ o. earliest (judged o (λ (e : RangeSummary). operand_refusal at (is_some (summary_rect_type count e)) (summary_fits_other_dims count e)))) are.2
-      ∙ ap (λ n. earliest (judged (ranges_summary p s rs) (λ (e : RangeSummary). operand_refusal at (is_some (summary_rect_type n e)) (summary_fits_other_dims n e)))) is_count ∙ ap earliest (rect_refusal_is p s at rs)) is_first,
-)
+pub rect_form : (p : ProgramView) (s : ScopeContents) (at : Place) (rs : NumberedRanges)
+    (a : Operands) (count : ℕ) (own j : TypedExpr)
+    → AreTypedOperands p s (operands_in rs) [] a → count ≡ range_count rs
+    → typed_of own
+    ≡ plain (option_and_then (summary_rect_type count) (option_map summary_of a.types)) → own.first
+    ≡ earliest
+    (judged (option_map summary_of a.types) (λ (told : OperandSummary). operand_refusal at
+    (is_some (summary_rect_type count told)) (summary_fits_other_dims count told)))
+    → typed_of j ≡ typed_of own → j.first ≡ earlier_of a.inner (earlier_of a.misplaced own.first)
+    → IsTypedExpr p s (x.Rect at rs) j
+rect_form p s at rs a count own j are is_count is_known is_own is_typed is_first =
+    let n = range_count rs in
+    let places = places_of (operands_in rs) in
+    let told = ranges_told p s rs a are in
+    let types = option_map (summary places []) (bounds p s rs) in (
+      is_typed ∙ is_known ∙ ap (λ o. plain (option_and_then (summary_rect_type count) o)) told.2
+          ∙ ap (λ n. plain (option_and_then (summary_rect_type n) types)) is_count
+          ∙ plain_same (option_and_then (summary_rect_type n) types)
+          (option_and_then (rect_literal n) (bounds p s rs))
+          (rect_is places [] n (bounds p s rs)),
+      node p s (x.Rect at rs) (parts_of_ranges rs) (bounds_misplaced p s rs)
+          (judged (bounds p s rs) (λ ts. operand_refusal at (is_some (rect_literal n ts))
+          (is_some (rect_literal n (map erase_dims ts)))))
+          a.inner a.misplaced own.first j.first refl refl told.0 told.1
+          (is_own ∙ ap
+          (λ o. earliest
+          (judged o (λ (told : OperandSummary). operand_refusal at
+          (is_some (summary_rect_type count told)) (summary_fits_other_dims count told)))) told.2
+          ∙ ap (λ n. earliest
+          (judged types (λ (told : OperandSummary). operand_refusal at
+          (is_some (summary_rect_type n told)) (summary_fits_other_dims n told)))) is_count
+          ∙ ap earliest (rect_refusal_is at places [] n (bounds p s rs))) is_first,
+    )
 
--- ---- fields, members and indices
-
-pub select_form : (p : ProgramView) (s : ScopeContents) (at : Place) (e : NumberedExp) (name : ℕ) (place : Place) (t own j : TypedExpr) → IsTypedExpr p s e t → place ≡ place_of_numbered e
-    → typed_of own ≡ plain (option_and_then (λ u. select_type p u name) (operand (typed_of t))) → own.first
-    ≡ earliest (judged (operand (typed_of t)) (λ u. operand_refusal at (is_some (select_type p u name)) false))
-    → typed_of j ≡ typed_of own → j.first ≡ earlier_of t.first (earlier_of (earliest (misplaced_at place (typed_of t))) own.first) → IsTypedExpr p s (x.Select at e name) j
-select_form p s at e name place t own j is_t is_place is_known is_own is_typed is_first = (
-  is_typed ∙ is_known ∙ ap (λ k. plain (option_and_then (λ u. select_type p u name) (operand k))) is_t.0,
-  node p s (x.Select at e name) (parts e) (misplaced p s e) (judged (operand (type_result p s e))
-      (λ u. operand_refusal at (is_some (select_type p u name)) false)) t.first
-      (earliest (misplaced_at place (typed_of t))) own.first j.first refl refl is_t.1
-      (ap (λ k. earliest (misplaced_at place k)) is_t.0 ∙ ap (λ q. earliest (misplaced_at q (type_result p s e))) is_place) (is_own
-      ∙ ap (λ k. earliest (judged (operand k) (λ u. operand_refusal at (is_some (select_type p u name)) false))) is_t.0) is_first,
-)
+-- ---- members and indices
 
 -- what is in a receiver and in arguments
-inner_both : (p : ProgramView) (s : ScopeContents) (e : NumberedExp) (xs : NumberedExps) (us : List ValueType) (t : TypedExpr) (a : Arguments) → IsTypedExpr p s e t → AreTypedArguments p s xs us a
+inner_both : (p : ProgramView) (s : ScopeContents) (e : NumberedExp) (xs : NumberedExps)
+    (us : List ValueType) (t : TypedExpr) (a : Operands) → IsTypedExpr p s e t
+    → AreTypedOperands p s xs us a
     → earlier_of t.first a.inner ≡ earliest (flat_map (refusals_at p s) (parts e ++ parts_of_all xs))
 inner_both p s e xs us t a is_t are = ap (λ f. earlier_of f a.inner) is_t.1 ∙ ap (earlier_of (earliest (exp_refusals p s e))) are.0 ∙ sym (first_append_each (refusals_at p s) (parts e) (parts_of_all xs))
 
 placed_both : (p : ProgramView) (s : ScopeContents) (e : NumberedExp) (xs : NumberedExps) (us : List ValueType) (place : Place)
-    (t : TypedExpr) (a : Arguments) → IsTypedExpr p s e t → place ≡ place_of_numbered e → AreTypedArguments p s xs us a
+    (t : TypedExpr) (a : Operands) → IsTypedExpr p s e t → place ≡ place_of_numbered e
+    → AreTypedOperands p s xs us a
     → earlier_of (earliest (misplaced_at place (typed_of t))) a.misplaced ≡ earliest (misplaced p s e ++ all_misplaced p s xs)
 placed_both p s e xs us place t a is_t is_place are =
     ap (λ k. earlier_of (earliest (misplaced_at place k)) a.misplaced) is_t.0
@@ -153,26 +189,41 @@ placed_both p s e xs us place t a is_t is_place are =
     ∙ sym (first_append (misplaced p s e) (all_misplaced p s xs))
 
 pub member_form : (p : ProgramView) (s : ScopeContents) (at : Place) (e : NumberedExp) (name : ℕ) (xs : NumberedExps) (place : Place)
-    (m : Option NumberedMethod) (t : TypedExpr) (a : Arguments) (count : ℕ) (own j : TypedExpr) → IsTypedExpr p s e t → place ≡ place_of_numbered e
-    → m ≡ member_method p (operand (typed_of t)) name → AreTypedArguments p s xs (parameter_types m) a → count ≡ length (places_of xs)
-    → typed_of own ≡ summary_member p (operand (typed_of t)) name m count (option_map summary_of a.types) → own.first
-    ≡ summary_member_refusal p at (places_of xs) (operand (typed_of t)) name m count (option_map summary_of a.types)
+    (o : Option ValueType) (m : Option NumberedMethod) (t : TypedExpr) (a : Operands) (count : ℕ)
+    (own j : TypedExpr) → IsTypedExpr p s e t
+    → place ≡ place_of_numbered e → o ≡ operand (type_result p s e)
+    → m ≡ member_method p o name → AreTypedOperands p s xs (parameter_types m) a → count
+    ≡ length (places_of xs)
+    → typed_of own ≡ summary_member p o name m count (option_map summary_of a.types)
+    → own.first ≡ summary_member_refusal p at (places_of xs) o name m count
+    (option_map summary_of a.types)
     → typed_of j ≡ typed_of own → j.first ≡ earlier_of (earlier_of t.first a.inner)
     (earlier_of (earlier_of (earliest (misplaced_at place (typed_of t))) a.misplaced) own.first) → IsTypedExpr p s (x.Member at e name xs) j
-member_form p s at e name xs place m t a count own j is_t is_place is_m are is_count is_known is_own is_typed is_first = (
-  is_typed ∙ is_known ∙ ap (summary_member p (operand (typed_of t)) name m count) are.2
-      ∙ ap (λ n. summary_member p (operand (typed_of t)) name n count (option_map (summary (places_of xs) (parameter_types n)) (operands p s xs))) is_m
-      ∙ behind_is p (places_of xs) (operand (typed_of t)) name (operands p s xs) count is_count (count_places p s xs)
-      ∙ ap (λ k. member_typing p (operand k) name (operands p s xs)) is_t.0,
-  node p s (x.Member at e name xs) (parts e ++ parts_of_all xs) (misplaced p s e ++ all_misplaced p s xs)
-      (both_judged (operand (type_result p s e)) (operands p s xs) (λ u ts. member_refusals p at (places_of xs) name u ts))
-      (earlier_of t.first a.inner) (earlier_of (earliest (misplaced_at place (typed_of t))) a.misplaced) own.first j.first refl refl
-      (inner_both p s e xs (parameter_types m) t a is_t are) (placed_both p s e xs (parameter_types m) place t a is_t is_place are)
-      (is_own ∙ ap (summary_member_refusal p at (places_of xs) (operand (typed_of t)) name m count) are.2
-      ∙ ap (λ n. summary_member_refusal p at (places_of xs) (operand (typed_of t)) name n count (option_map (summary (places_of xs) (parameter_types n)) (operands p s xs))) is_m
-      ∙ behind_refusal_is p at (places_of xs) (operand (typed_of t)) name (operands p s xs) count is_count (count_places p s xs)
-      ∙ ap (λ k. earliest (both_judged (operand k) (operands p s xs) (λ u ts. member_refusals p at (places_of xs) name u ts))) is_t.0) is_first,
-)
+member_form p s at e name xs place o m t a count own j is_t is_place is_o is_m are is_count is_known
+    is_own is_typed is_first = (
+      is_typed ∙ is_known ∙ ap (summary_member p o name m count) are.2
+          ∙ ap (λ n. summary_member p o name n count
+          (option_map (summary (places_of xs) (parameter_types n)) (operands p s xs))) is_m
+          ∙ behind_is p (places_of xs) o name (operands p s xs) count is_count (count_places p s xs)
+          ∙ ap (λ q. member_typing p q name (operands p s xs)) is_o,
+      node p s (x.Member at e name xs) (parts e ++ parts_of_all xs) (misplaced p s e
+          ++ all_misplaced p s xs)
+          (both_judged (operand (type_result p s e)) (operands p s xs)
+          (λ u ts. member_refusals p at (places_of xs) name u ts))
+          (earlier_of t.first a.inner)
+          (earlier_of (earliest (misplaced_at place (typed_of t))) a.misplaced) own.first j.first
+          refl refl
+          (inner_both p s e xs (parameter_types m) t a is_t are)
+          (placed_both p s e xs (parameter_types m) place t a is_t is_place are)
+          (is_own ∙ ap (summary_member_refusal p at (places_of xs) o name m count) are.2
+          ∙ ap (λ n. summary_member_refusal p at (places_of xs) o name n count
+          (option_map (summary (places_of xs) (parameter_types n)) (operands p s xs))) is_m
+          ∙ behind_refusal_is p at (places_of xs) o name (operands p s xs) count is_count
+          (count_places p s xs)
+          ∙ ap (λ q. earliest
+          (both_judged q (operands p s xs) (λ u ts. member_refusals p at (places_of xs) name u ts)))
+          is_o) is_first,
+    )
 
 index_both : (places : List Place) (t : Option ValueType) (o : Option (List ValueType)) (count : ℕ)
     → ((ts : List ValueType) → o ≡ Some ts → count ≡ length ts) → and_then_both t (option_map (summary places []) o) (summary_index_type count)
@@ -190,25 +241,39 @@ index_refused at places (Some t) (Some ts) count same =
     ap (λ n. operand_refusal at (is_some (summary_index_type n t (summary places [] ts))) (summary_other_indices n t (summary places [] ts))) (same ts refl)
     ∙ ap (λ q. operand_refusal at (is_some q) (summary_other_indices (length ts) t (summary places [] ts))) (index_is places [] t ts) ∙ ap (operand_refusal at (is_some (index_type t ts))) (other_is places [] t ts)
 
-pub index_form : (p : ProgramView) (s : ScopeContents) (at : Place) (e : NumberedExp) (xs : NumberedExps) (place : Place) (t : TypedExpr)
-    (a : Arguments) (count : ℕ) (own j : TypedExpr) → IsTypedExpr p s e t → place ≡ place_of_numbered e → AreTypedArguments p s xs [] a
-    → count ≡ length (places_of xs) → typed_of own ≡ plain (and_then_both (operand (typed_of t)) (option_map summary_of a.types) (summary_index_type count))
-    → own.first ≡ earliest (both_judged (operand (typed_of t)) (option_map summary_of a.types) (λ u summary. operand_refusal at (is_some (summary_index_type count u summary)) (summary_other_indices count u summary)))
+pub index_form : (p : ProgramView) (s : ScopeContents) (at : Place) (e : NumberedExp)
+    (xs : NumberedExps) (place : Place)
+    (o : Option ValueType) (t : TypedExpr) (a : Operands) (count : ℕ) (own j : TypedExpr)
+    → IsTypedExpr p s e t → place ≡ place_of_numbered e
+    → o ≡ operand (type_result p s e) → AreTypedOperands p s xs [] a
+    → count ≡ length (places_of xs) → typed_of own
+    ≡ plain (and_then_both o (option_map summary_of a.types) (summary_index_type count))
+    → own.first
+    ≡ earliest (both_judged o (option_map summary_of a.types)
+    (λ u told. operand_refusal at (is_some (summary_index_type count u told))
+    (summary_other_indices count u told)))
     → typed_of j ≡ typed_of own → j.first ≡ earlier_of (earlier_of t.first a.inner) (earlier_of (earlier_of (earliest (misplaced_at place (typed_of t))) a.misplaced) own.first) → IsTypedExpr p s (x.Index at e xs) j
-index_form p s at e xs place t a count own j is_t is_place are is_count is_known is_own is_typed is_first =
+index_form p s at e xs place o t a count own j is_t is_place is_o are is_count is_known is_own
+    is_typed is_first =
     let same = λ (ts : List ValueType) (is : operands p s xs ≡ Some ts). is_count ∙ count_places p s xs ts is in (
-      is_typed ∙ is_known ∙ ap (λ o. plain (and_then_both (operand (typed_of t)) o (summary_index_type count))) are.2
-          ∙ plain_same (and_then_both (operand (typed_of t)) (option_map (summary (places_of xs) []) (operands p s xs)) (summary_index_type count))
-          (and_then_both (operand (typed_of t)) (operands p s xs) index_type)
-          (index_both (places_of xs) (operand (typed_of t)) (operands p s xs) count same)
-          ∙ ap (λ k. plain (and_then_both (operand k) (operands p s xs) index_type)) is_t.0,
+      is_typed ∙ is_known ∙ ap (λ q. plain (and_then_both o q (summary_index_type count))) are.2
+          ∙ plain_same (and_then_both o (option_map (summary (places_of xs) []) (operands p s xs))
+          (summary_index_type count))
+          (and_then_both o (operands p s xs) index_type)
+          (index_both (places_of xs) o (operands p s xs) count same)
+          ∙ ap (λ q. plain (and_then_both q (operands p s xs) index_type)) is_o,
       node p s (x.Index at e xs) (parts e ++ parts_of_all xs) (misplaced p s e ++ all_misplaced p s xs)
           (both_judged (operand (type_result p s e)) (operands p s xs) (λ u ts. operand_refusal at (is_some (index_type u ts)) (other_indices u ts)))
           (earlier_of t.first a.inner) (earlier_of (earliest (misplaced_at place (typed_of t))) a.misplaced) own.first j.first refl refl
           (inner_both p s e xs [] t a is_t are) (placed_both p s e xs [] place t a is_t is_place are)
-          (is_own ∙ ap (λ o. earliest (both_judged (operand (typed_of t)) o (λ u summary. operand_refusal at (is_some (summary_index_type count u summary)) (summary_other_indices count u summary)))) are.2
-          ∙ ap earliest (index_refused at (places_of xs) (operand (typed_of t)) (operands p s xs) count same)
-          ∙ ap (λ k. earliest (both_judged (operand k) (operands p s xs) (λ u ts. operand_refusal at (is_some (index_type u ts)) (other_indices u ts)))) is_t.0) is_first,
+          (is_own ∙ ap
+          (λ q. earliest
+          (both_judged o q (λ u told. operand_refusal at (is_some (summary_index_type count u told))
+          (summary_other_indices count u told)))) are.2
+          ∙ ap earliest (index_refused at (places_of xs) o (operands p s xs) count same)
+          ∙ ap (λ q. earliest
+          (both_judged q (operands p s xs) (λ u ts. operand_refusal at (is_some (index_type u ts))
+          (other_indices u ts)))) is_o) is_first,
     )
 
 -- ---- operators

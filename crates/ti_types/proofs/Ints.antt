@@ -1,5 +1,5 @@
--- An operator that maps two ints to an int is proved to have no error with operands that are ints without errors and no calls.
-use Rattle.std.proofs.Common.{◌≡◌, Bool, ◌++◌, Option, Some, None, is_some, ap, sym, subst}
+-- Two operands that are ints without errors and no calls are proved to have no error but that of their operator.
+use Rattle.std.proofs.Common.{◌≡◌, List, ◌++◌, Option, Some, None, is_some, ap₂, sym, ◌∙◌}
 use Rattle.ti_base.specs.declared.place.Place.{Place}
 use Rattle.ti_syntax.specs.declared.tree.exprs.BinaryOperator.{BinaryOperator}
 use Rattle.ti_lang.specs.Program.Types.{ValueType, Int}
@@ -11,26 +11,31 @@ use Rattle.ti_rules.specs.Mirrors.First.{earlier_of, earliest}
 use Rattle.ti_rules.specs.Broken.Refused.{both_judged, operand_refusal}
 use Rattle.ti_rules.specs.Broken.Misplaced.{misplaced_at}
 
--- what counts of what is wrong between two such operands
-abbrev counting : BinaryOperator → Place → Place → Place → ExprTyping → ExprTyping → Option Refusal → Option Refusal → Option Refusal
+-- what is wrong between operands of these types
+abbrev wrong : BinaryOperator → Place → Option ValueType → Option ValueType → List Refusal
+wrong op at o q =
+    both_judged o q (λ t u. operand_refusal at (is_some (binary_type op t u))
+    (is_some (binary_type op (erase_dims t) (erase_dims u))))
+
+-- what counts of what is wrong with operands of these typings and errors, and between them
+abbrev counting : BinaryOperator → Place → Place → Place → ExprTyping → ExprTyping → Option Refusal
+    → Option Refusal → Option Refusal
 counting op inner other at x y f g =
-    earlier_of (earlier_of f g)
-    (earliest
-    ((misplaced_at inner x ++ misplaced_at other y)
-    ++ both_judged (operand x) (operand y) (λ t u. operand_refusal at (is_some (binary_type op t u)) (is_some (binary_type op (erase_dims t) (erase_dims u))))))
+    earlier_of (earlier_of f g) (earliest ((misplaced_at inner x ++ misplaced_at other y)
+    ++ wrong op at (operand x) (operand y)))
 
-taken : (op : BinaryOperator) (at : Place) (otherwise : Bool) → binary_type op Int Int ≡ Some Int → None
-    ≡ earlier_of (earlier_of None None) (earliest (operand_refusal at (is_some (binary_type op Int Int)) otherwise))
-unfolding earlier_of earliest
-taken op at otherwise e = ap (λ (o : Option ValueType). earlier_of (earlier_of None None) (earliest (operand_refusal at (is_some o) otherwise))) (sym e)
+own_counts : (op : BinaryOperator) (inner other at : Place) (own : Option Refusal)
+    → own ≡ earliest (wrong op at (Some Int) (Some Int))
+    → own ≡ counting op inner other at (plain (Some Int)) (plain (Some Int)) None None
+unfolding earlier_of
+own_counts op inner other at own e = e
 
--- nothing is
-pub ints_sound : (op : BinaryOperator) (inner other at : Place) (x y : ExprTyping) (f g : Option Refusal) → x ≡ plain (Some Int) → y
-    ≡ plain (Some Int) → f ≡ None → g ≡ None → binary_type op Int Int ≡ Some Int
-    → None ≡ counting op inner other at x y f g
-ints_sound op inner other at x y f g a b c d e =
-    subst (λ (z : ExprTyping). None ≡ counting op inner other at z y f g) (sym a)
-    (subst (λ (z : ExprTyping). None ≡ counting op inner other at (plain (Some Int)) z f g) (sym b)
-    (subst (λ (z : Option Refusal). None ≡ counting op inner other at (plain (Some Int)) (plain (Some Int)) z g) (sym c)
-    (subst (λ (z : Option Refusal). None ≡ counting op inner other at (plain (Some Int)) (plain (Some Int)) None z) (sym d)
-    (taken op at (is_some (binary_type op (erase_dims Int) (erase_dims Int))) e))))
+-- of two ints without errors, only what the operator itself says counts
+pub ints_sound : (op : BinaryOperator) (inner other at : Place) (x y : ExprTyping)
+    (f g own : Option Refusal)
+    → x ≡ plain (Some Int) → y ≡ plain (Some Int) → f ≡ None → g ≡ None
+    → own ≡ earliest (wrong op at (Some Int) (Some Int)) → own ≡ counting op inner other at x y f g
+ints_sound op inner other at x y f g own a b c d e =
+    own_counts op inner other at own e
+    ∙ sym (ap₂ (λ (p q : ExprTyping). counting op inner other at p q None None) a b)
+    ∙ sym (ap₂ (λ (p q : Option Refusal). counting op inner other at x y p q) c d)

@@ -1,6 +1,5 @@
 mod Forms
 mod Ints
-mod Rows
 mod Loops
 mod Parameters
 mod Repeated

@@ -1,15 +1,14 @@
 -- The summaries of the types of indices, members and ranges are proved to determine what the typing rules need.
-use Rattle.std.proofs.Common.{◌≡◌, ℕ, suc, ◌==◌, Bool, true, false, not, ◌&&◌, if◌then◌else◌, List, [], ◌∷◌, ◌++◌, map, length, Option, Some, None, is_some, option_map, option_and_then, refl, sym, ap, ◌∙◌, arith}
+use Rattle.std.proofs.Common.{◌≡◌, ℕ, suc, ◌==◌, Bool, true, false, not, ◌&&◌, if◌then◌else◌, List, [], ◌∷◌, map, length, Option, Some, None, is_some, option_map, option_and_then, refl, sym, ap, ◌∙◌, arith}
+use Rattle.std.specs.List.{list_all}
 use Rattle.std.proofs.lemmas.Bool.Decides.{Decides-eqb}
 use Rattle.ti_base.specs.declared.place.Place.{Place}
 use Rattle.ti_lang.specs.Program.Types.{ValueType, Int, Pt, Rc, Dm, Region, Class, Grid}
-use Rattle.ti_lang.specs.Program.Expressions.{NumberedRanges, NoRange, MoreRange}
 use Rattle.ti_lang.specs.Program.Classes.{ProgramView}
-use Rattle.ti_lang.specs.Program.Scope.{ScopeContents}
-use Rattle.ti_lang.specs.Typing.Kinds.{where_true, read_through}
+use Rattle.ti_lang.specs.Typing.Kinds.{where_true, same_type, is_point_type, read_through}
 use Rattle.ti_lang.specs.Typing.BuiltIn as b
 use Rattle.ti_lang.specs.Typing.BuiltIn.{BuiltIn, built_in, member_type}
-use Rattle.ti_lang.specs.Typing.Expressions.{ExprTyping, plain, and_then_both, append_both, is_int, all_ints, range_of_points, rect_literal, range_count, index_type, bound_types, bounds, member_typing}
+use Rattle.ti_lang.specs.Typing.Expressions.{ExprTyping, plain, is_int, all_ints, all_points, range_of_points, rect_literal, index_type, member_typing}
 use Rattle.ti_rules.specs.declared.rule.Rule.TheVariants.{Y1, Y4}
 use Rattle.ti_rules.specs.declared.refusal.Refusal.{Refusal}
 use Rattle.ti_rules.specs.Mirrors.First.{earliest}
@@ -17,19 +16,15 @@ use Rattle.ti_lang.specs.Typing.Alike.{erase_dims}
 use Rattle.ti_rules.specs.Broken.Refused.{refusal_at, judged, both_judged, operand_refusal}
 use Rattle.ti_rules.specs.Broken.Calls.{has_member, argument_count, argument_refusals, built_in_refusals, member_refusals}
 use Rattle.ti_rules.specs.Broken.Expressions.{other_indices}
-use Rattle.ti_types.specs.Mirrors.Arguments.{head_type, second_type, summary, parameter_types}
+use Rattle.ti_types.specs.Mirrors.Arguments.{OperandSummary, head_type, second_type, summary, parameter_types}
 use Rattle.ti_types.specs.Mirrors.BuiltIn.{summary_member_type, other_refusals, one_refusals, arguments_by, summary_argument_refusals, summary_built_in_refusals}
-use Rattle.ti_types.specs.Mirrors.Nodes.{summary_index_type, is_index, summary_other_indices, member_method, summary_member, summary_member_refusal, RangeSummary, range_summary, prepend_range, ranges_summary, summary_rect_type, summary_fits_other_dims, summary_literal}
+use Rattle.ti_types.specs.Mirrors.Nodes.{summary_index_type, is_index, summary_other_indices, member_method, summary_member, summary_member_refusal, summary_rect_type, summary_fits_other_dims, summary_literal}
 use Rattle.ti_types.specs.Results.{literal}
 use Rattle.ti_types.proofs.Summaries.{differ, called_is, instance_is}
 
 and_false : (b : Bool) → b && false ≡ false
 and_false true = refl
 and_false false = refl
-
-and_true : (b : Bool) → b && true ≡ b
-and_true true = refl
-and_true false = refl
 
 -- ---- indices
 
@@ -191,110 +186,71 @@ ints_as : (ts : List ValueType) → all_ints (map erase_dims ts) ≡ all_ints ts
 ints_as [] = refl
 ints_as (t ∷ ts) = ap (λ b. b && all_ints (map erase_dims ts)) (int_as t) ∙ ap (λ b. is_int t && b) (ints_as ts)
 
-and_assoc : (a c d : Bool) → a && (c && d) ≡ (a && c) && d
-and_assoc true c d = refl
-and_assoc false c d = refl
+point_as : (t : ValueType) → same_type (Pt 1) (erase_dims t) ≡ is_point_type t
+point_as (Pt n) = refl
+point_as (Rc n) = refl
+point_as (Dm n) = refl
+point_as (Grid t n local) = refl
+point_as t = refl
 
-ints_both : (ts us : List ValueType) → all_ints (ts ++ us) ≡ all_ints ts && all_ints us
-ints_both [] us = refl
-ints_both (t ∷ ts) us = ap (λ b. is_int t && b) (ints_both ts us) ∙ and_assoc (is_int t) (all_ints ts) (all_ints us)
+points_as : (ts : List ValueType) → all_points 1 (map erase_dims ts) ≡ list_all is_point_type ts
+points_as [] = refl
+points_as (t ∷ ts) = ap (λ b. b && all_points 1 (map erase_dims ts)) (point_as t)
+    ∙ ap (λ b. is_point_type t && b) (points_as ts)
 
-alone : (ts : List ValueType) → ts ++ [] ≡ ts
-alone [] = refl
-alone (t ∷ ts) = ap (λ l. t ∷ l) (alone ts)
+some_where : {A : Type 0} (b : Bool) (a : A) → is_some (where_true b a) ≡ b
+some_where true a = refl
+some_where false a = refl
 
--- whether all are ints is told
-abbrev InStep : Option RangeSummary → Option (List ValueType) → Type 0
-InStep None None = Unit {0}
-InStep (Some e) (Some ts) = e.ints ≡ all_ints ts
-InStep (Some e) None = ⊥
-InStep None (Some ts) = ⊥
+near_points : (t : ValueType) (ts : List ValueType)
+    → list_all is_point_type (t ∷ ts) ≡ is_some (range_of_points (map erase_dims (t ∷ ts)))
+near_points (Pt n) ts = sym (some_where (all_points 1 (map erase_dims ts)) (Rc 1) ∙ points_as ts)
+near_points (Rc n) ts = refl
+near_points (Dm n) ts = refl
+near_points (Grid t n local) ts = refl
+near_points t ts = refl
 
-step : (o : Option (List ValueType)) (q : Option RangeSummary) (w : Option (List ValueType)) → InStep q w → InStep (and_then_both (option_map range_summary o) q (λ e others. Some (prepend_range e others))) (append_both o w)
-step None q w i = tt
-step (Some xs) None None i = tt
-step (Some xs) (Some e) (Some ys) i = ap (λ c. all_ints xs && c) i ∙ sym (ints_both xs ys)
-step (Some xs) (Some e) None i = absurd i
-step (Some xs) None (Some ys) i = absurd i
-
-in_step : (p : ProgramView) (s : ScopeContents) (rs : NumberedRanges) → InStep (ranges_summary p s rs) (bounds p s rs)
-in_step p s NoRange = refl
-in_step p s (MoreRange r rest) = step (bound_types p s r) (ranges_summary p s rest) (bounds p s rest) (in_step p s rest)
-
--- what they give is told, and what they would give with other numbers of dimensions
-abbrev pub AreTold : ℕ → Option RangeSummary → Option (List ValueType) → Type 0
-AreTold n None None = Unit {0}
-AreTold n (Some e) (Some ts) = (summary_rect_type n e ≡ rect_literal n ts) × (summary_fits_other_dims n e ≡ is_some (rect_literal n (map erase_dims ts)))
-AreTold n (Some e) None = ⊥
-AreTold n None (Some ts) = ⊥
-
-not_one : (n : ℕ) (q : Option RangeSummary) (w : Option (List ValueType)) → n == 1 ≡ false → InStep q w → AreTold n q w
-not_one n None None differs i = tt
-not_one n (Some e) None differs i = absurd i
-not_one n None (Some ts) differs i = absurd i
-not_one n (Some e) (Some ts) differs i = (
-  ap (λ c. if c then Some (Rc n) else if n == 1 then e.range else None) i ∙ ap (λ c. if all_ints ts then Some (Rc n) else if c then e.range else None) differs
-      ∙ sym (ap (λ c. if all_ints ts then Some (Rc n) else if c then range_of_points ts else None) differs),
-  ap (λ c. if c then true else if n == 1 then e.fits_other_dims else false) i ∙ ap (λ c. if all_ints ts then true else if c then e.fits_other_dims else false) differs ∙ by (all_ints ts)
-      ∙ sym (ap (λ c. is_some (if c then Some (Rc n) else if n == 1 then range_of_points (map erase_dims ts) else None)) (ints_as ts)
-      ∙ ap (λ c. is_some (if all_ints ts then Some (Rc n) else if c then range_of_points (map erase_dims ts) else None)) differs),
-)
+near_is : (places : List Place) (us : List ValueType) (n : ℕ) (ts : List ValueType)
+    → summary_fits_other_dims n (summary places us ts)
+    ≡ is_some (rect_literal n (map erase_dims ts))
+near_is places us n [] = refl
+near_is places us n (t ∷ ts) =
+    by (all_ints (t ∷ ts)) (n == 1) (range_of_points (map erase_dims (t ∷ ts)))
+    (list_all is_point_type (t ∷ ts)) (near_points t ts)
+    ∙ sym (ap
+    (λ c. is_some (if c then Some (Rc n) else if n == 1 then range_of_points
+    (map erase_dims (t ∷ ts)) else None))
+    (ints_as (t ∷ ts)))
   where
-    by : (c : Bool) → (if c then true else if false then e.fits_other_dims else false) ≡ is_some (if c then Some (Rc n) else if false then range_of_points (map erase_dims ts) else None)
-    by true = refl
-    by false = refl
-
-single : (o : Option (List ValueType)) → AreTold 1 (and_then_both (option_map range_summary o) (Some (range_summary [])) (λ e others. Some (prepend_range e others))) (append_both o (Some []))
-single None = tt
-single (Some ts) = (
-  ap (λ c. if c then Some (Rc 1) else range_of_points ts) (and_true (all_ints ts)) ∙ sym (ap (rect_literal 1) (alone ts)),
-  ap (λ c. if c then true else is_some (range_of_points (map erase_dims ts))) (and_true (all_ints ts)) ∙ by (all_ints ts)
-      ∙ sym (ap (λ c. is_some (if c then Some (Rc 1) else range_of_points (map erase_dims ts))) (ints_as ts))
-      ∙ sym (ap (λ l. is_some (rect_literal 1 (map erase_dims l))) (alone ts)),
-)
-  where
-    by : (c : Bool) → (if c then true else is_some (range_of_points (map erase_dims ts))) ≡ is_some (if c then Some (Rc 1) else range_of_points (map erase_dims ts))
-    by true = refl
-    by false = refl
-
-are_told : (p : ProgramView) (s : ScopeContents) (rs : NumberedRanges) → AreTold (range_count rs) (ranges_summary p s rs) (bounds p s rs)
-are_told p s NoRange = not_one 0 (ranges_summary p s NoRange) (bounds p s NoRange) refl (in_step p s NoRange)
-are_told p s (MoreRange r NoRange) = single (bound_types p s r)
-are_told p s (MoreRange r (MoreRange q rest)) =
-    let rs = MoreRange r (MoreRange q rest) in
-    not_one (range_count rs) (ranges_summary p s rs) (bounds p s rs) (differ (range_count rs) 1 (λ e. omega (arith, e))) (in_step p s rs)
-
-literal_of_told : (n : ℕ) (q : Option RangeSummary) (w : Option (List ValueType)) → AreTold n q w → option_map (summary_literal n) q ≡ option_map (literal n) w
-literal_of_told n None None i = refl
-literal_of_told n (Some e) (Some ts) i = ap Some (λ j. record { type = i.0 j; fits_other_dims = i.1 j })
-literal_of_told n (Some e) None i = absurd i
-literal_of_told n None (Some ts) i = absurd i
+    by : (b c : Bool) (o : Option ValueType) (k : Bool) → k ≡ is_some o
+        → (if b then true else if c then k else false)
+        ≡ is_some (if b then Some (Rc n) else if c then o else None)
+    by true c o k e = refl
+    by false true o k e = e
+    by false false o k e = refl
 
 -- the literal that ranges are
-pub literal_is : (p : ProgramView) (s : ScopeContents) (rs : NumberedRanges)
-    → option_map (summary_literal (range_count rs)) (ranges_summary p s rs) ≡ option_map (literal (range_count rs)) (bounds p s rs)
-literal_is p s rs = literal_of_told (range_count rs) (ranges_summary p s rs) (bounds p s rs) (are_told p s rs)
+pub literal_is : (places : List Place) (us : List ValueType) (n : ℕ) (o : Option (List ValueType))
+    → option_map (summary_literal n) (option_map (summary places us) o) ≡ option_map (literal n) o
+literal_is places us n None = refl
+literal_is places us n (Some ts) = ap Some
+    (λ j. record { type = rect_literal n ts; fits_other_dims = near_is places us n ts j })
 
-rect_of : (n : ℕ) (q : Option RangeSummary) (w : Option (List ValueType)) → AreTold n q w → option_and_then (summary_rect_type n) q ≡ option_and_then (rect_literal n) w
-rect_of n None None i = refl
-rect_of n (Some e) (Some ts) i = i.0
-rect_of n (Some e) None i = absurd i
-rect_of n None (Some ts) i = absurd i
+-- its type
+pub rect_is : (places : List Place) (us : List ValueType) (n : ℕ) (o : Option (List ValueType))
+    → option_and_then (summary_rect_type n) (option_map (summary places us) o)
+    ≡ option_and_then (rect_literal n) o
+rect_is places us n None = refl
+rect_is places us n (Some ts) = refl
 
-rect_refused : (at : Place) (n : ℕ) (q : Option RangeSummary) (w : Option (List ValueType)) → AreTold n q w
-    → judged q (λ (e : RangeSummary). operand_refusal at (is_some (summary_rect_type n e)) (summary_fits_other_dims n e)) ≡ judged w (λ ts. operand_refusal at (is_some (rect_literal n ts)) (is_some (rect_literal n (map erase_dims ts))))
-rect_refused at n None None i = refl
-rect_refused at n (Some e) (Some ts) i = ap (λ o. operand_refusal at (is_some o) (summary_fits_other_dims n e)) i.0 ∙ ap (operand_refusal at (is_some (rect_literal n ts))) i.1
-rect_refused at n (Some e) None i = absurd i
-rect_refused at n None (Some ts) i = absurd i
-
--- what ranges give
-pub rect_is : (p : ProgramView) (s : ScopeContents) (rs : NumberedRanges)
-    → option_and_then (summary_rect_type (range_count rs)) (ranges_summary p s rs) ≡ option_and_then (rect_literal (range_count rs)) (bounds p s rs)
-rect_is p s rs = rect_of (range_count rs) (ranges_summary p s rs) (bounds p s rs) (are_told p s rs)
-
--- what is wrong with them
-pub rect_refusal_is : (p : ProgramView) (s : ScopeContents) (at : Place) (rs : NumberedRanges)
-    → judged (ranges_summary p s rs) (λ (e : RangeSummary). operand_refusal at (is_some (summary_rect_type (range_count rs) e)) (summary_fits_other_dims (range_count rs) e))
-    ≡ judged (bounds p s rs) (λ ts. operand_refusal at (is_some (rect_literal (range_count rs) ts)) (is_some (rect_literal (range_count rs) (map erase_dims ts))))
-rect_refusal_is p s at rs = rect_refused at (range_count rs) (ranges_summary p s rs) (bounds p s rs) (are_told p s rs)
+-- what is wrong with it
+pub rect_refusal_is : (at : Place) (places : List Place) (us : List ValueType) (n : ℕ)
+    (o : Option (List ValueType))
+    → judged (option_map (summary places us) o)
+    (λ (told : OperandSummary). operand_refusal at (is_some (summary_rect_type n told))
+    (summary_fits_other_dims n told))
+    ≡ judged o (λ ts. operand_refusal at (is_some (rect_literal n ts))
+    (is_some (rect_literal n (map erase_dims ts))))
+rect_refusal_is at places us n None = refl
+rect_refusal_is at places us n (Some ts) = ap (operand_refusal at (is_some (rect_literal n ts)))
+    (near_is places us n ts)

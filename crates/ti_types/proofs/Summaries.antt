@@ -1,16 +1,17 @@
 -- The summary of argument types is proved to determine what the typing rules need of the list.
 use Rattle.std.proofs.Common.{◌≡◌, ◌⊎◌, inl, inr, ℕ, suc, ◌+◌, ◌==◌, Bool, true, false, ◌&&◌, if◌then◌else◌, List, [], ◌∷◌, ◌++◌, drop, length, get_or, slice_get, Option, Some, None, is_none, option_map, refl, sym, ap, ◌∙◌, true≢false, arith}
+use Rattle.std.specs.List.{list_all}
 use Rattle.std.proofs.lemmas.Bool.{cases_order}
 use Rattle.std.proofs.lemmas.List.{drop_all}
 use Rattle.std.proofs.lemmas.Option.{slice_get-get_or, slice_get_past}
 use Rattle.std.proofs.lemmas.Bool.Decides.{Decides-eqb}
 use Rattle.ti_base.specs.declared.place.Place.{Place}
-use Rattle.ti_lang.specs.Program.Types.{ValueType, Null}
+use Rattle.ti_lang.specs.Program.Types.{ValueType, Pt, Rc, Null}
 use Rattle.ti_lang.specs.Program.Classes.{NumberedParam, NumberedParams, MainArgs, Params, NumberedMethod}
-use Rattle.ti_lang.specs.Typing.Kinds.{where_true}
+use Rattle.ti_lang.specs.Typing.Kinds.{where_true, is_point_type}
 use Rattle.ti_lang.specs.Typing.Fits.{fits}
 use Rattle.ti_lang.specs.Typing.Declared.{result_type, types_of}
-use Rattle.ti_lang.specs.Typing.Expressions.{ExprTyping, is_int, all_ints, all_fit, takes, called, and_then_both, append_both, one}
+use Rattle.ti_lang.specs.Typing.Expressions.{ExprTyping, is_int, all_ints, all_points, range_of_points, all_fit, takes, called, and_then_both, append_both, one}
 use Rattle.ti_rules.specs.declared.rule.Rule.{Rule}
 use Rattle.ti_rules.specs.declared.rule.Rule.TheVariants.{Y1, Y2, Y4, Y5, Q1}
 use Rattle.ti_rules.specs.declared.refusal.Refusal.{Refusal}
@@ -20,7 +21,7 @@ use Rattle.ti_lang.specs.Typing.Alike.{erase_dims, as_local}
 use Rattle.ti_rules.specs.Broken.Refused.{refusal_at, judged, misfit}
 use Rattle.ti_rules.specs.Broken.Calls.{misfits, first_misfit, params_refusals, call_refusals, instance_refusals}
 use Rattle.ti_rules.proofs.Lemmas.{first_append}
-use Rattle.ti_types.specs.Mirrors.Arguments.{ArgumentSummary, head_type, summary, prepend, parameter_refusal, types_in, parameter_types, params_accept, summary_params_refusal, summary_call_refusal, summary_call}
+use Rattle.ti_types.specs.Mirrors.Arguments.{OperandSummary, head_type, summary, has_dim, range_before, prepend, parameter_refusal, types_in, parameter_types, params_accept, summary_params_refusal, summary_call_refusal, summary_call}
 use Rattle.ti_types.proofs.Loops.{drop_next}
 
 -- ---- the parameter of a number
@@ -48,21 +49,68 @@ none_more l e = sym (ap earliest e)
 
 -- ---- one type more
 
-with_misfit : (t : ValueType) (ts : List ValueType) (a b : Option Refusal) → a ≡ b
-    → (let x : ArgumentSummary = record { ints = is_int t && all_ints ts; first = Some t; second = head_type ts; misfit = a } in x)
-    ≡ record { ints = is_int t && all_ints ts; first = Some t; second = head_type ts; misfit = b }
-with_misfit t ts a b e = ap (λ m. let x : ArgumentSummary = record { ints = is_int t && all_ints ts; first = Some t; second = head_type ts; misfit = m } in x) e
+and_false : (b : Bool) → false ≡ b && false
+and_false true = refl
+and_false false = refl
+
+and_true : (b : Bool) → b && true ≡ b
+and_true true = refl
+and_true false = refl
+
+-- the domain of points of one dimension, if there is one, has another dimension or not
+dim_if : (n m : ℕ) (c : Bool) → has_dim n (where_true c (Rc m)) ≡ (n == m) && c
+dim_if n m true = sym (and_true (n == m))
+dim_if n m false = and_false (n == m)
+
+dim_more : (n m : ℕ) (ts : List ValueType)
+    → has_dim n (where_true (all_points m ts) (Rc m)) ≡ (n == m) && all_points n ts
+dim_more n m ts = dim_if n m (all_points m ts) ∙ by (n == m) refl
+  where
+    by : (b : Bool) → n == m ≡ b → (n == m) && all_points m ts ≡ (n == m) && all_points n ts
+    by true e =
+        let same : n ≡ m = (Decides-eqb n m).0 e in
+        ap (λ k. (n == m) && all_points k ts) (sym same)
+    by false e = ap (λ b. b && all_points m ts) e ∙ sym (ap (λ b. b && all_points n ts) e)
+
+range_more : (t : ValueType) (ts : List ValueType)
+    → range_before t (head_type ts) (range_of_points ts) ≡ range_of_points (t ∷ ts)
+range_more (Pt n) [] = refl
+range_more (Pt n) (Pt m ∷ ts) = ap (λ b. where_true b (Rc n)) (dim_more n m ts)
+range_more (Pt n) (u ∷ ts) = refl
+range_more t ts = refl
+
+-- the summary of one type more, with this domain and this first misfit
+abbrev with_more : ValueType → List ValueType → Option ValueType → Option Refusal → OperandSummary
+with_more t ts range misfit = record {
+  ints = is_int t && all_ints ts;
+  first = Some t;
+  second = head_type ts;
+  range = range;
+  points = is_point_type t && list_all is_point_type ts;
+  misfit = misfit;
+}
+
+same_more : (t : ValueType) (ts : List ValueType) (a b : Option Refusal) → a ≡ b
+    → with_more t ts (range_before t (head_type ts) (range_of_points ts)) a
+    ≡ with_more t ts (range_of_points (t ∷ ts)) b
+same_more t ts a b e =
+    ap (λ r. with_more t ts r a) (range_more t ts)
+    ∙ ap (with_more t ts (range_of_points (t ∷ ts))) e
 
 pub told_more : (us : List ValueType) (i : ℕ) (at : Place) (places : List Place) (t : ValueType) (ts : List ValueType)
     → prepend at (slice_get us i) t (summary places (drop (i + 1) us) ts) ≡ summary (at ∷ places) (drop i us) (t ∷ ts)
 told_more us i at places t ts = elim (at_or_past Null us i) [
   | inl there ↦
-      with_misfit t ts (earlier_of (parameter_refusal at t (slice_get us i)) (earliest (misfits places ts (drop (i + 1) us)))) (earliest (misfits (at ∷ places) (t ∷ ts) (drop i us)))
+      same_more t ts (earlier_of (parameter_refusal at t (slice_get us i))
+      (earliest (misfits places ts (drop (i + 1) us))))
+      (earliest (misfits (at ∷ places) (t ∷ ts) (drop i us)))
       (ap (λ o. earlier_of (parameter_refusal at t o) (earliest (misfits places ts (drop (i + 1) us)))) there.2
       ∙ sym (first_append (misfit at t there.0) (misfits places ts (drop (i + 1) us)))
       ∙ sym (ap (λ l. earliest (misfits (at ∷ places) (t ∷ ts) l)) there.1))
   | inr past ↦
-      with_misfit t ts (earlier_of (parameter_refusal at t (slice_get us i)) (earliest (misfits places ts (drop (i + 1) us)))) (earliest (misfits (at ∷ places) (t ∷ ts) (drop i us)))
+      same_more t ts (earlier_of (parameter_refusal at t (slice_get us i))
+      (earliest (misfits places ts (drop (i + 1) us))))
+      (earliest (misfits (at ∷ places) (t ∷ ts) (drop i us)))
       (ap (λ o. earlier_of (parameter_refusal at t o) (earliest (misfits places ts (drop (i + 1) us)))) past.1
       ∙ sym (none_more (misfits places ts (drop (i + 1) us)) (ap (misfits places ts) past.2 ∙ no_misfits places ts))
       ∙ sym (ap (λ l. earliest (misfits (at ∷ places) (t ∷ ts) l)) past.0))
@@ -85,10 +133,6 @@ sooner_some r (Some s) = by (counts_before s r)
     by : (b : Bool) → is_none (if b then Some s else Some r) ≡ false
     by true = refl
     by false = refl
-
-and_false : (b : Bool) → false ≡ b && false
-and_false true = refl
-and_false false = refl
 
 pub differ : (n m : ℕ) → (n ≡ m → ⊥) → n == m ≡ false
 differ n m apart = by (n == m) refl

@@ -1,12 +1,13 @@
--- The typing result of an expression, and of ranges as in a domain literal.
-use Rattle.std.specs.Prelude.{◌≡◌, ℕ, Bool, List, map, Option, is_some}
+-- The typing result of an expression, of a target, and of ranges as in a domain literal.
+use Rattle.std.specs.Prelude.{◌≡◌, ℕ, Bool, List, map, Option, None, is_some}
 use Rattle.std.specs.Option.{option_map}
 use Rattle.ti_lang.specs.Program.Types.{ValueType}
 use Rattle.ti_lang.specs.Program.Expressions.{NumberedExp}
+use Rattle.ti_lang.specs.Program.Expressions as x
 use Rattle.ti_lang.specs.Program.Classes.{ProgramView}
 use Rattle.ti_lang.specs.Program.Scope.{ScopeContents}
 use Rattle.ti_lang.specs.Typing.Alike.{erase_dims}
-use Rattle.ti_lang.specs.Typing.Expressions.{ExprTyping, type_result, rect_literal}
+use Rattle.ti_lang.specs.Typing.Expressions.{ExprTyping, type_result, operand_type, rect_literal}
 use Rattle.ti_lang.specs.Typing.TyRef.{ty_view}
 use Rattle.ti_rules.specs.Mirrors.First.{earliest}
 use Rattle.ti_rules.specs.Broken.Expressions.{exp_refusals}
@@ -22,6 +23,12 @@ typed_of j = record { type = option_map ty_view j.ty; is_call = j.is_call }
 -- the typing result of an expression is right: its type, and its first type error
 abbrev pub IsTypedExpr : ProgramView → ScopeContents → NumberedExp → TypedExpr → Type 0
 IsTypedExpr p s e j = (typed_of j ≡ type_result p s e) × (j.first ≡ earliest (exp_refusals p s e))
+
+-- the type of the receiver of a field of an object or of an element; None if there is no receiver, or if it has no type
+abbrev pub receiver_type : ProgramView → ScopeContents → NumberedExp → Option ValueType
+receiver_type p s (x.Select at a name) = operand_type p s a
+receiver_type p s (x.Index at a parts) = operand_type p s a
+receiver_type p s e = None
 
 -- ---- ranges
 

@@ -1,7 +1,6 @@
 // Typing of the built-in members of domains, grids and regions.
 ghost use Rattle.std.specs.Prelude.{◌≡◌, [], ◌∷◌, None};
 ghost use Rattle.std.specs.Option.{option_map, option_and_then};
-ghost use Rattle.ti_lang.specs.Program.Views.{program_of};
 ghost use Rattle.ti_lang.specs.Typing.BuiltIn.{same_grids, has_local_elements, can_copy, can_exchange, member_type, Contains, Restrict, Translate};
 ghost use Rattle.ti_rules.specs.Mirrors.First.{earliest};
 ghost use Rattle.ti_rules.specs.Broken.Calls.{has_member, argument_count, copy_refusals, exchange_refusals, slice_refusals, takes_local};
@@ -12,8 +11,8 @@ ghost use Rattle.ti_types.specs.Results.{typed_of};
 ghost use Rattle.ti_lang.specs.Typing.Expressions.{plain};
 ghost use Rattle.ti_lang.specs.Typing.Kinds.{where_true};
 
-use crate::arguments::{ArgumentTypes, is_int};
-use crate::fitting::is_assignable;
+use crate::fitting::{is_assignable, where_true};
+use crate::operands::{OperandTypes, is_int};
 use crate::refusals::operand_refusal;
 use crate::typed_expr::TypedExpr;
 use ti_base::Place;
@@ -118,12 +117,6 @@ fn type_without_arguments<'a>(member: BuiltIn, ty: TyRef<'a>) -> Option<TyRef<'a
     }
 }
 
-fn where_true<'a>(test: bool, ty: TyRef<'a>) -> Option<TyRef<'a>>
-    ensures { option_map ty_view result ≡ where_true test (ty_view ty.entry) }
-{
-    if test { Some(ty) } else { None }
-}
-
 fn contains_type<'a>(ty: TyRef<'a>, arg: TyRef<'a>) -> Option<TyRef<'a>>
     ensures { option_map ty_view result ≡ member_type Contains (ty_view ty.entry) (ty_view arg.entry ∷ []) }
 {
@@ -210,7 +203,7 @@ pub fn built_in_type<'a>(
     member: BuiltIn,
     ty: TyRef<'a>,
     count: usize,
-    summary: ArgumentTypes<'a>,
+    summary: OperandTypes<'a>,
 ) -> Option<TyRef<'a>>
     ensures { option_map ty_view result ≡ summary_member_type (built_in_of member) (ty_view ty.entry) count (summary_of summary.entry) }
 {
@@ -362,7 +355,7 @@ fn argument_refusal<'a>(
     place: Place,
     member: BuiltIn,
     ty: TyRef<'a>,
-    summary: ArgumentTypes<'a>,
+    summary: OperandTypes<'a>,
 ) -> Option<Refusal>
     ensures { result ≡ earliest (summary_argument_refusals place (built_in_of member) (ty_view ty.entry) (summary_of summary.entry)) }
 {
@@ -379,61 +372,29 @@ fn argument_refusal<'a>(
     }
 }
 
-/// The first error of a member of a value that isn't an object: Y1 if it has no such member, Y4 if the number of arguments is wrong,
-/// else that of the arguments.
+/// The typing result of a member of a value that isn't an object, by itself: error Y1 if it has no such member, Y4 if the number of
+/// arguments is wrong, else that of the arguments.
 #[tactic(auto, unfolding(ti_rules::specs::Mirrors::First::earliest))]
-fn built_in_refusal<'a>(
-    place: Place,
-    member: Option<BuiltIn>,
-    ty: TyRef<'a>,
-    count: usize,
-    summary: ArgumentTypes<'a>,
-) -> Option<Refusal>
-    ensures { result ≡ earliest (summary_built_in_refusals place (option_map built_in_of member) (ty_view ty.entry) count (summary_of summary.entry)) }
-{
-    match member {
-        None => refused_if(true, Rule::Y1, place),
-        Some(member) => {
-            if !has_member(member, ty) {
-                refused_if(true, Rule::Y1, place)
-            } else if count != arity(member) {
-                refused_if(true, Rule::Y4, place)
-            } else {
-                argument_refusal(place, member, ty, summary)
-            }
-        }
-    }
-}
-
-fn maybe_built_in_type<'a>(
-    member: Option<BuiltIn>,
-    ty: TyRef<'a>,
-    count: usize,
-    summary: ArgumentTypes<'a>,
-) -> Option<TyRef<'a>>
-    ensures { option_map ty_view result ≡ option_and_then (λ member. summary_member_type member (ty_view ty.entry) count (summary_of summary.entry))
-        (option_map built_in_of member) }
-{
-    match member {
-        Some(member) => built_in_type(member, ty, count, summary),
-        None => None,
-    }
-}
-
-/// The typing result of a member of a value that isn't an object, by itself.
 pub fn typed_built_in<'a>(
     place: Place,
     member: Option<BuiltIn>,
     ty: TyRef<'a>,
     count: usize,
-    summary: ArgumentTypes<'a>,
+    summary: OperandTypes<'a>,
 ) -> TypedExpr<'a>
     ensures known { typed_of result ≡ plain (option_and_then (λ member. summary_member_type member (ty_view ty.entry) count (summary_of summary.entry))
         (option_map built_in_of member)) }
     ensures first { result.first ≡ earliest (summary_built_in_refusals place (option_map built_in_of member) (ty_view ty.entry) count (summary_of summary.entry)) }
 {
-    TypedExpr::plain(
-        maybe_built_in_type(member, ty, count, summary),
-        built_in_refusal(place, member, ty, count, summary),
-    )
+    let Some(member) = member else {
+        return TypedExpr::plain(None, refused_if(true, Rule::Y1, place));
+    };
+    let given = built_in_type(member, ty, count, summary);
+    if !has_member(member, ty) {
+        TypedExpr::plain(given, refused_if(true, Rule::Y1, place))
+    } else if count != arity(member) {
+        TypedExpr::plain(given, refused_if(true, Rule::Y4, place))
+    } else {
+        TypedExpr::plain(given, argument_refusal(place, member, ty, summary))
+    }
 }

@@ -1,6 +1,8 @@
 // Assignability of types.
 ghost use Rattle.std.specs.Prelude.{◌≡◌};
+ghost use Rattle.std.specs.Option.{option_map};
 ghost use Rattle.ti_lang.specs.Typing.Fits.{becomes, fits, casts};
+ghost use Rattle.ti_lang.specs.Typing.Kinds.{where_true};
 ghost use Rattle.ti_lang.specs.Typing.TyRef.{ty_view};
 
 use ti_lang::typing::TyRef;
@@ -32,4 +34,11 @@ pub fn is_castable<'p>(to: TyRef<'p>, ty: TyRef<'p>) -> bool
     to.with_local(false).same(ty.with_local(false))
         || to.is_reference() && ty.is_null()
         || to.is_whole() && ty.is_whole()
+}
+
+/// The type, if the test holds.
+pub fn where_true<'p>(test: bool, ty: TyRef<'p>) -> Option<TyRef<'p>>
+    ensures { option_map ty_view result ≡ where_true test (ty_view ty.entry) }
+{
+    if test { Some(ty) } else { None }
 }

@@ -12,8 +12,9 @@ ghost use Rattle.ti_rules.specs.Broken.Misplaced.{bounds_misplaced};
 ghost use Rattle.ti_types.specs.Results.{literal, literal_of};
 
 use crate::exprs::TypeChecker;
-use crate::rects::Ranges;
+use crate::rects::{Ranges, literal_types};
 use ti_lang::program::{Range, Scope};
+use ti_rules::earlier_of;
 
 impl<'a> TypeChecker<'a> {
     /// The typing result of ranges as in a domain literal.
@@ -24,8 +25,10 @@ impl<'a> TypeChecker<'a> {
         ensures types { option_map literal_of result.types ≡ option_map (literal (range_count (numbered_ranges (map bound_of ranges.now))))
             (bounds (program_of self.now.program.now) (contents_of scope.now) (numbered_ranges (map bound_of ranges.now))) }
     {
-        let count = ranges.len();
         let found = self.ranges(scope, ranges);
-        found.literal(count)
+        Ranges {
+            first: earlier_of(found.inner, found.misplaced),
+            types: literal_types(ranges.len(), found.types),
+        }
     }
 }

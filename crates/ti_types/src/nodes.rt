@@ -11,48 +11,33 @@ ghost use Rattle.ti_rules.specs.Broken.Refused.{judged, both_judged, operand_ref
 ghost use Rattle.ti_rules.specs.Broken.Expressions.{places_of};
 ghost use Rattle.ti_types.specs.Results.{typed_of};
 ghost use Rattle.ti_lang.specs.Typing.TyRef.{ty_view};
-ghost use Rattle.ti_types.specs.Mirrors.Arguments.{ArgumentSummary, summary_of};
+ghost use Rattle.ti_types.specs.Mirrors.Arguments.{OperandSummary, summary_of};
 ghost use Rattle.ti_types.specs.Mirrors.Nodes.{are_indices, summary_index_type, is_index, summary_other_indices, summary_member, summary_member_refusal};
 
-use crate::arguments::{ArgumentTypes, typed_call};
+use crate::arguments::typed_call;
 use crate::built_in::typed_built_in;
-use crate::refusals::operand_refusal;
+use crate::fitting::where_true;
+use crate::operands::OperandTypes;
 use crate::typed_expr::TypedExpr;
 use ti_base::Place;
 use ti_lang::program::{Expr, Method, ProgramData};
 use ti_lang::typing::{TyRef, built_in, select_type};
-use ti_rules::{Refusal, Rule, refused_if};
-
-fn point_type<'a>(count: usize, types: Option<ArgumentTypes<'a>>) -> Option<TyRef<'a>>
-    ensures { option_map ty_view result ≡ option_and_then (λ (t : ArgumentSummary). where_true t.ints (Pt count)) (option_map summary_of types.entry) }
-{
-    match types {
-        Some(summary) => if summary.ints {
-            Some(TyRef::Pt(count))
-        } else {
-            None
-        },
-        None => None,
-    }
-}
-
-#[tactic(auto, unfolding(ti_rules::specs::Mirrors::First::earliest))]
-fn point_refusal(place: Place, types: Option<ArgumentTypes>) -> Option<Refusal>
-    ensures { result ≡ earliest (judged (option_map summary_of types.entry) (λ (t : ArgumentSummary). mistaken_at place t.ints false)) }
-{
-    match types {
-        Some(summary) => operand_refusal(place, summary.ints, false),
-        None => None,
-    }
-}
+use ti_rules::{Rule, refused_if};
 
 /// The typing result of a point literal with `count` coordinates, by itself.
-pub fn point<'a>(place: Place, count: usize, types: Option<ArgumentTypes<'a>>) -> TypedExpr<'a>
-    ensures known { typed_of result ≡ plain (option_and_then (λ (t : ArgumentSummary). where_true t.ints (Pt count))
+pub fn point<'a>(place: Place, count: usize, types: Option<OperandTypes<'a>>) -> TypedExpr<'a>
+    ensures known { typed_of result
+        ≡ plain (option_and_then (λ (t : OperandSummary). where_true t.ints (Pt count))
         (option_map summary_of types.entry)) }
-    ensures first { result.first ≡ earliest (judged (option_map summary_of types.entry) (λ (t : ArgumentSummary). mistaken_at place t.ints false)) }
+    ensures first { result.first
+        ≡ earliest
+        (judged (option_map summary_of types.entry)
+        (λ (t : OperandSummary). mistaken_at place t.ints false)) }
 {
-    TypedExpr::plain(point_type(count, types), point_refusal(place, types))
+    match types {
+        Some(told) => TypedExpr::accepted_if(place, told.ints, TyRef::Pt(count), false),
+        None => TypedExpr::untyped(),
+    }
 }
 
 fn are_indices<'a>(dim: usize, count: usize, first: Option<TyRef<'a>>, ints: bool) -> bool
@@ -64,27 +49,20 @@ fn are_indices<'a>(dim: usize, count: usize, first: Option<TyRef<'a>>, ints: boo
     }
 }
 
-fn index_type<'a>(count: usize, ty: TyRef<'a>, summary: ArgumentTypes<'a>) -> Option<TyRef<'a>>
+fn index_type<'a>(count: usize, ty: TyRef<'a>, summary: OperandTypes<'a>) -> Option<TyRef<'a>>
     ensures { option_map ty_view result ≡ summary_index_type count (ty_view ty.entry) (summary_of summary.entry) }
 {
     match ty {
-        TyRef::Pt(_) => if summary.ints && count == 1 {
-            Some(TyRef::Int)
-        } else {
-            None
-        },
+        TyRef::Pt(_) => where_true(summary.ints && count == 1, TyRef::Int),
         TyRef::Grid {
             elem,
             any_dim,
             dim,
             local,
-        } => {
-            if are_indices(dim, count, summary.first, summary.ints) {
-                Some(TyRef::of(elem, any_dim).read_through(local))
-            } else {
-                None
-            }
-        }
+        } => where_true(
+            are_indices(dim, count, summary.first, summary.ints),
+            TyRef::of(elem, any_dim).read_through(local),
+        ),
         _ => None,
     }
 }
@@ -95,7 +73,7 @@ fn is_index(first: Option<TyRef>) -> bool
     matches!(first, Some(TyRef::Int | TyRef::Pt(_)))
 }
 
-fn other_indices<'a>(count: usize, ty: TyRef<'a>, summary: ArgumentTypes<'a>) -> bool
+fn other_indices<'a>(count: usize, ty: TyRef<'a>, summary: OperandTypes<'a>) -> bool
     ensures { result ≡ summary_other_indices count (ty_view ty.entry) (summary_of summary.entry) }
 {
     match ty {
@@ -111,53 +89,25 @@ fn other_indices<'a>(count: usize, ty: TyRef<'a>, summary: ArgumentTypes<'a>) ->
     }
 }
 
-fn maybe_index<'a>(
-    count: usize,
-    ty: Option<TyRef<'a>>,
-    types: Option<ArgumentTypes<'a>>,
-) -> Option<TyRef<'a>>
-    ensures { option_map ty_view result ≡ and_then_both (option_map ty_view ty.entry) (option_map summary_of types.entry) (summary_index_type count) }
-{
-    match (ty, types) {
-        (Some(ty), Some(summary)) => index_type(count, ty, summary),
-        _ => None,
-    }
-}
-
-#[tactic(auto, unfolding(ti_rules::specs::Mirrors::First::earliest))]
-fn index_refusal<'a>(
-    place: Place,
-    count: usize,
-    ty: Option<TyRef<'a>>,
-    types: Option<ArgumentTypes<'a>>,
-) -> Option<Refusal>
-    ensures { result ≡ earliest (both_judged (option_map ty_view ty.entry) (option_map summary_of types.entry)
-        (λ u summary. mistaken_at place (is_some (summary_index_type count u summary)) (summary_other_indices count u summary))) }
-{
-    match (ty, types) {
-        (Some(ty), Some(summary)) => {
-            let taken = index_type(count, ty, summary).is_some();
-            operand_refusal(place, taken, other_indices(count, ty, summary))
-        }
-        _ => None,
-    }
-}
-
 /// The typing result of an index with `count` indices into a value of type `ty`, by itself.
 pub fn index<'a>(
     place: Place,
     count: usize,
     ty: Option<TyRef<'a>>,
-    types: Option<ArgumentTypes<'a>>,
+    types: Option<OperandTypes<'a>>,
 ) -> TypedExpr<'a>
     ensures known { typed_of result ≡ plain (and_then_both (option_map ty_view ty.entry) (option_map summary_of types.entry) (summary_index_type count)) }
     ensures first { result.first ≡ earliest (both_judged (option_map ty_view ty.entry) (option_map summary_of types.entry)
         (λ u summary. mistaken_at place (is_some (summary_index_type count u summary)) (summary_other_indices count u summary))) }
 {
-    TypedExpr::plain(
-        maybe_index(count, ty, types),
-        index_refusal(place, count, ty, types),
-    )
+    match (ty, types) {
+        (Some(ty), Some(told)) => TypedExpr::accepted(
+            place,
+            index_type(count, ty, told),
+            other_indices(count, ty, told),
+        ),
+        _ => TypedExpr::untyped(),
+    }
 }
 
 /// The typing result of a member call on a value of type `ty`, by itself; `method` is the method if `ty` is a class.
@@ -169,7 +119,7 @@ pub fn member<'a>(
     name: u32,
     method: Option<&'a Method>,
     args: &'a [Expr],
-    types: Option<ArgumentTypes<'a>>,
+    types: Option<OperandTypes<'a>>,
 ) -> TypedExpr<'a>
     ensures known { typed_of result ≡ summary_member (program_of program.now) (option_map ty_view ty.entry) name
         (option_map (λ method. numbered_method_of method.now) method.entry) (length args.now) (option_map summary_of types.entry) }
@@ -178,7 +128,7 @@ pub fn member<'a>(
         (option_map summary_of types.entry) }
 {
     let Some(ty) = ty else {
-        return TypedExpr::plain(None, None);
+        return TypedExpr::untyped();
     };
     if ty.is_object() {
         return typed_call(
@@ -191,32 +141,7 @@ pub fn member<'a>(
     }
     match types {
         Some(summary) => typed_built_in(place, built_in(program, name), ty, args.len(), summary),
-        None => TypedExpr::plain(None, None),
-    }
-}
-
-fn field_of<'a>(program: &'a ProgramData, ty: Option<TyRef<'a>>, name: u32) -> Option<TyRef<'a>>
-    ensures { option_map ty_view result ≡ option_and_then (λ ty. select_type (program_of program.now) ty name) (option_map ty_view ty.entry) }
-{
-    match ty {
-        Some(ty) => select_type(program, ty, name),
-        None => None,
-    }
-}
-
-#[tactic(auto, unfolding(ti_rules::specs::Mirrors::First::earliest))]
-fn field_refusal<'a>(
-    program: &'a ProgramData,
-    place: Place,
-    ty: Option<TyRef<'a>>,
-    name: u32,
-) -> Option<Refusal>
-    ensures { result ≡ earliest (judged (option_map ty_view ty.entry) (λ ty. mistaken_at place
-        (is_some (select_type (program_of program.now) ty name)) false)) }
-{
-    match ty {
-        Some(ty) => operand_refusal(place, select_type(program, ty, name).is_some(), false),
-        None => None,
+        None => TypedExpr::untyped(),
     }
 }
 
@@ -231,8 +156,8 @@ pub fn select<'a>(
     ensures first { result.first ≡ earliest (judged (option_map ty_view ty.entry)
         (λ ty. mistaken_at place (is_some (select_type (program_of program.now) ty name)) false)) }
 {
-    TypedExpr::plain(
-        field_of(program, ty, name),
-        field_refusal(program, place, ty, name),
-    )
+    match ty {
+        Some(ty) => TypedExpr::accepted(place, select_type(program, ty, name), false),
+        None => TypedExpr::untyped(),
+    }
 }

@@ -1,11 +1,10 @@
 // The operand and result types of operators.
 ghost use Rattle.std.specs.Prelude.{◌≡◌};
 ghost use Rattle.std.specs.Option.{option_map, option_or};
-ghost use Rattle.ti_lang.specs.Typing.Operators.{wider, whole_type, truth_type, point_type, rect_type, domain_type, are_references, are_comparable, are_ordered, Sum, Product, Shift, Bits, row_type, binary_type, unary_type};
-ghost use Rattle.ti_lang.specs.Program.Types.{Boolean};
-ghost use Rattle.ti_lang.specs.Typing.Kinds.{where_true};
+ghost use Rattle.ti_lang.specs.Typing.Operators.{whole_type, truth_type, point_type, rect_type, domain_type, are_references, are_comparable, are_ordered, Sum, Product, Shift, Bits, row_type, binary_type, unary_type};
 ghost use Rattle.ti_lang.specs.Typing.TyRef.{ty_view};
 
+use crate::fitting::where_true;
 use ti_lang::typing::TyRef;
 use ti_syntax::tree::{BinaryOperator, UnaryOperator};
 
@@ -97,12 +96,6 @@ fn either_type<'p>(left: Option<TyRef<'p>>, right: Option<TyRef<'p>>) -> Option<
     }
 }
 
-fn truth_if<'p>(test: bool) -> Option<TyRef<'p>>
-    ensures { option_map ty_view result ≡ where_true test Boolean }
-{
-    if test { Some(TyRef::Bool) } else { None }
-}
-
 // The result type of `+` and `-`.
 fn sum_type<'p>(left: TyRef<'p>, right: TyRef<'p>) -> Option<TyRef<'p>>
     ensures { option_map ty_view result ≡ row_type Sum (ty_view left.entry) (ty_view right.entry) }
@@ -123,11 +116,7 @@ fn product_type<'p>(left: TyRef<'p>, right: TyRef<'p>) -> Option<TyRef<'p>>
 fn shift_type<'p>(left: TyRef<'p>, right: TyRef<'p>) -> Option<TyRef<'p>>
     ensures { option_map ty_view result ≡ row_type Shift (ty_view left.entry) (ty_view right.entry) }
 {
-    if left.is_whole() && right.is_whole() {
-        Some(left)
-    } else {
-        None
-    }
+    where_true(left.is_whole() && right.is_whole(), left)
 }
 
 // The result type of `&`, `|` and `^`.
@@ -157,8 +146,11 @@ pub fn binary_type<'p>(
         BinaryOperator::Less
         | BinaryOperator::LessEqual
         | BinaryOperator::Greater
-        | BinaryOperator::GreaterEqual => truth_if(are_ordered(left, right)),
-        BinaryOperator::Equal | BinaryOperator::NotEqual => truth_if(are_comparable(left, right)),
+        | BinaryOperator::GreaterEqual => where_true(are_ordered(left, right), TyRef::Bool),
+        BinaryOperator::Equal | BinaryOperator::NotEqual => where_true(
+            are_comparable(left, right),
+            TyRef::Bool,
+        ),
     }
 }
 

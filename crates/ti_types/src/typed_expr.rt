@@ -1,5 +1,5 @@
 // Typing results of expressions, and how operators combine them.
-ghost use Rattle.std.specs.Prelude.{◌≡◌, [], ◌++◌, is_some, false, Some, None, IsTrue};
+ghost use Rattle.std.specs.Prelude.{◌≡◌, [], ◌++◌, is_some, true, false, Some, None, IsTrue};
 ghost use Rattle.std.specs.Option.{option_map, option_and_then};
 ghost use Rattle.ti_lang.specs.Program.Types.{Int};
 ghost use Rattle.ti_lang.specs.Program.Views.{value_type_of, type_use_of};
@@ -15,7 +15,7 @@ ghost use Rattle.ti_rules.specs.Broken.Words.{type_word_refusals};
 ghost use Rattle.ti_lang.specs.Typing.TyRef.{ty_view};
 ghost use Rattle.ti_types.specs.Results.{typed_of};
 
-use crate::fitting::is_castable;
+use crate::fitting::{is_castable, where_true};
 use crate::operators::{binary_type, unary_type};
 use crate::refusals::operand_refusal;
 use crate::words::type_words;
@@ -36,35 +36,23 @@ pub struct TypedExpr<'a> {
     pub first: Option<Refusal>,
 }
 
-// Whether the operator maps two ints to an int.
-fn is_of_ints(operator: BinaryOperator) -> bool
-    ensures { IsTrue result → binary_type operator Int Int ≡ Some Int }
-{
-    match operator {
-        BinaryOperator::Add
-        | BinaryOperator::Subtract
-        | BinaryOperator::Multiply
-        | BinaryOperator::Divide
-        | BinaryOperator::Remainder
-        | BinaryOperator::And
-        | BinaryOperator::Or
-        | BinaryOperator::Xor
-        | BinaryOperator::ShiftLeft
-        | BinaryOperator::ShiftRight
-        | BinaryOperator::UnsignedShiftRight => true,
-        _ => false,
-    }
+/// The typing result of an expression as the target of an assignment.
+#[derive(Clone, Copy)]
+pub struct TypedTarget<'a> {
+    /// The typing result of the expression.
+    pub whole: TypedExpr<'a>,
+    /// The type of its receiver, if it is a field of an object or an element and the receiver has a type.
+    pub receiver: Option<TyRef<'a>>,
 }
 
-// Whether both operands are ints without type errors, neither is a method call, and the operator maps two ints to an int.
-fn are_sound_ints(operator: BinaryOperator, left: &TypedExpr, right: &TypedExpr) -> bool
-    ensures operator { IsTrue result → binary_type operator Int Int ≡ Some Int }
+// Whether both operands are ints without type errors, and neither is a method call.
+fn are_sound_ints(left: &TypedExpr, right: &TypedExpr) -> bool
     ensures left { IsTrue result → typed_of left.now ≡ plain (Some Int) }
     ensures right { IsTrue result → typed_of right.now ≡ plain (Some Int) }
     ensures left_first { IsTrue result → left.now.first ≡ None }
     ensures right_first { IsTrue result → right.now.first ≡ None }
 {
-    is_of_ints(operator) && left.is_sound_int() && right.is_sound_int()
+    left.is_sound_int() && right.is_sound_int()
 }
 
 impl<'a> TypedExpr<'a> {
@@ -87,6 +75,54 @@ impl<'a> TypedExpr<'a> {
         ensures first { result.first ≡ earliest [] }
     {
         TypedExpr::plain(ty, None)
+    }
+
+    /// The result of a call of a declared method.
+    pub(crate) fn call(ty: Option<TyRef<'a>>, first: Option<Refusal>) -> TypedExpr<'a>
+        ensures known { typed_of result
+            ≡ record { type = option_map ty_view ty.entry; is_call = true } }
+        ensures first { result.first ≡ first }
+    {
+        TypedExpr {
+            ty,
+            is_call: true,
+            first,
+        }
+    }
+
+    /// The result if an operand has no type: no type, and no further error.
+    pub(crate) fn untyped() -> TypedExpr<'a>
+        ensures known { typed_of result ≡ plain None }
+        ensures first { result.first ≡ earliest [] }
+    {
+        TypedExpr::sound(None)
+    }
+
+    /// The result of a form by itself, given its type if it accepts its operands. Otherwise its error is Y5 if it would accept them with
+    /// dimensions ignored (`otherwise`), else Y1.
+    pub(crate) fn accepted(place: Place, ty: Option<TyRef<'a>>, otherwise: bool) -> TypedExpr<'a>
+        ensures known { typed_of result ≡ plain (option_map ty_view ty.entry) }
+        ensures first { result.first
+            ≡ earliest (mistaken_at place (is_some (option_map ty_view ty.entry)) otherwise) }
+    {
+        TypedExpr::plain(ty, operand_refusal(place, ty.is_some(), otherwise))
+    }
+
+    /// The result of a form by itself, which has this type if it accepts its operands (`taken`). Otherwise its error is Y5 if it would
+    /// accept them with dimensions ignored (`otherwise`), else Y1.
+    pub(crate) fn accepted_if(
+        place: Place,
+        taken: bool,
+        ty: TyRef<'a>,
+        otherwise: bool,
+    ) -> TypedExpr<'a>
+        ensures known { typed_of result ≡ plain (where_true taken (ty_view ty.entry)) }
+        ensures first { result.first ≡ earliest (mistaken_at place taken otherwise) }
+    {
+        TypedExpr::plain(
+            where_true(taken, ty),
+            operand_refusal(place, taken, otherwise),
+        )
     }
 
     /// Adds the error of a part, which takes precedence at the same position.
@@ -132,16 +168,7 @@ impl<'a> TypedExpr<'a> {
         ensures first { result.first ≡ sooner_of self.entry.first (earliest (misplaced_at inner (typed_of self.entry)
             ++ judged (operand (typed_of self.entry)) (λ t. mistaken_at place (is_some (unary_type operator t)) false))) }
     {
-        let t = self.operand();
-        let own = earlier_of(
-            self.misplaced_refusal(inner),
-            unary_refusal(place, operator, t),
-        );
-        let ty = match t {
-            Some(t) => unary_type(operator, t),
-            None => None,
-        };
-        TypedExpr::plain(ty, earlier_of(self.first, own))
+        self.add_to(inner, unary(place, operator, self.operand()))
     }
 
     // Whether it is an int without type errors and not a method call.
@@ -170,8 +197,8 @@ impl<'a> TypedExpr<'a> {
             ++ both_judged (operand (typed_of self.entry)) (operand (typed_of other.entry))
             (λ t u. mistaken_at place (is_some (binary_type operator t u)) (is_some (binary_type operator (erase_dims t) (erase_dims u)))))) }
     {
-        if are_sound_ints(operator, &self, &other) {
-            TypedExpr::plain(Some(TyRef::Int), None)
+        if are_sound_ints(&self, &other) {
+            typed_binary(place, operator, Some(TyRef::Int), Some(TyRef::Int))
         } else {
             self.general_binary(inner, other, other_inner, place, operator)
         }
@@ -215,21 +242,22 @@ impl<'a> TypedExpr<'a> {
             ++ judged (operand (typed_of self.entry)) (λ t. mistaken_at place (casts_to (type_use_of to.now).type t)
             (casts_to (erase_dims (type_use_of to.now).type) (erase_dims t))))) }
     {
-        let t = self.operand();
         let words = earlier_of(type_words(false, to), self.misplaced_refusal(inner));
-        let own = earlier_of(words, cast_refusal(place, &to.ty, t));
-        TypedExpr::plain(cast_type(&to.ty, t), earlier_of(self.first, own))
+        let own = cast(place, &to.ty, self.operand()).with_part_refusal(words);
+        own.with_part_refusal(self.first)
     }
 }
 
-/// The error of an operand that a unary operator doesn't accept.
-#[tactic(auto, unfolding(ti_rules::specs::Mirrors::First::earliest))]
-fn unary_refusal(place: Place, operator: UnaryOperator, ty: Option<TyRef>) -> Option<Refusal>
-    ensures { result ≡ earliest (judged (option_map ty_view ty.entry) (λ ty. mistaken_at place (is_some (unary_type operator ty)) false)) }
+/// The result of a unary operator by itself, given the type of its operand; if this has none, there is no type and no error.
+fn unary<'a>(place: Place, operator: UnaryOperator, ty: Option<TyRef<'a>>) -> TypedExpr<'a>
+    ensures known { typed_of result
+        ≡ plain (option_and_then (unary_type operator) (option_map ty_view ty.entry)) }
+    ensures first { result.first ≡ earliest (judged (option_map ty_view ty.entry)
+        (λ ty. mistaken_at place (is_some (unary_type operator ty)) false)) }
 {
     match ty {
-        Some(ty) => operand_refusal(place, unary_type(operator, ty).is_some(), false),
-        None => None,
+        Some(ty) => TypedExpr::accepted(place, unary_type(operator, ty), false),
+        None => TypedExpr::untyped(),
     }
 }
 
@@ -261,34 +289,26 @@ fn typed_binary<'a>(
     }
 }
 
-fn cast_type<'a>(to: &'a Ty, ty: Option<TyRef<'a>>) -> Option<TyRef<'a>>
-    ensures { option_map ty_view result ≡ option_and_then (λ ty. where_true (casts_to (value_type_of to.now) ty) (value_type_of to.now))
-        (option_map ty_view ty.entry) }
+/// The result of a cast by itself, given the type of its operand; if this has none, there is no type and no error.
+fn cast<'a>(place: Place, to: &'a Ty, ty: Option<TyRef<'a>>) -> TypedExpr<'a>
+    ensures known { typed_of result ≡ plain (option_and_then
+        (λ ty. where_true (casts_to (value_type_of to.now) ty) (value_type_of to.now))
+        (option_map ty_view ty.entry)) }
+    ensures first { result.first
+        ≡ earliest (judged (option_map ty_view ty.entry) (λ ty. mistaken_at place
+        (casts_to (value_type_of to.now) ty) (casts_to (erase_dims (value_type_of to.now))
+        (erase_dims ty)))) }
 {
     match ty {
         Some(ty) => {
             let to = TyRef::of(to, false);
-            if is_castable(to, ty) { Some(to) } else { None }
-        }
-        None => None,
-    }
-}
-
-/// The error of an operand that can't be cast.
-#[tactic(auto, unfolding(ti_rules::specs::Mirrors::First::earliest))]
-fn cast_refusal<'a>(place: Place, to: &'a Ty, ty: Option<TyRef<'a>>) -> Option<Refusal>
-    ensures { result ≡ earliest (judged (option_map ty_view ty.entry) (λ ty. mistaken_at place (casts_to (value_type_of to.now) ty)
-        (casts_to (erase_dims (value_type_of to.now)) (erase_dims ty)))) }
-{
-    match ty {
-        Some(ty) => {
-            let to = TyRef::of(to, false);
-            operand_refusal(
+            TypedExpr::accepted_if(
                 place,
                 is_castable(to, ty),
+                to,
                 is_castable(to.erase_dims(), ty.erase_dims()),
             )
         }
-        None => None,
+        None => TypedExpr::untyped(),
     }
 }

@@ -9,7 +9,7 @@ use Rattle.ti_rules.specs.declared.refusal.Refusal.{Refusal}
 use Rattle.ti_lang.specs.Typing.Alike.{erase_dims}
 use Rattle.ti_rules.specs.Broken.Refused.{refusal_at, operand_refusal}
 use Rattle.ti_rules.specs.Broken.Calls.{has_member, argument_count, copy_refusals, exchange_refusals, slice_refusals}
-use Rattle.ti_types.specs.Mirrors.Arguments.{ArgumentSummary}
+use Rattle.ti_types.specs.Mirrors.Arguments.{OperandSummary}
 
 -- the list of `count` types whose first two are these, if there are no more than two
 abbrev pub argument_list : ℕ → Option ValueType → Option ValueType → Option (List ValueType)
@@ -18,7 +18,7 @@ argument_list count (Some t) None = if count == 1 then Some (t ∷ []) else None
 argument_list count (Some t) (Some u) = if count == 2 then Some (t ∷ u ∷ []) else None
 
 -- the result type of a built-in member with `count` arguments
-abbrev pub summary_member_type : member.BuiltIn → ValueType → ℕ → ArgumentSummary → Option ValueType
+abbrev pub summary_member_type : member.BuiltIn → ValueType → ℕ → OperandSummary → Option ValueType
 summary_member_type b t count told = option_and_then (member_type b t) (argument_list count told.first told.second)
 
 -- the errors of the arguments of a member that accepts them by their types
@@ -39,11 +39,13 @@ arguments_by at b t (suc (suc n)) (Some u) (Some v) = slice_refusals at t (u ∷
 arguments_by at b t n u v = []
 
 -- the errors of a member's arguments, given that their number is right and their summary is this
-abbrev pub summary_argument_refusals : Place → member.BuiltIn → ValueType → ArgumentSummary → List Refusal
+abbrev pub summary_argument_refusals : Place → member.BuiltIn → ValueType → OperandSummary
+    → List Refusal
 summary_argument_refusals at b t told = arguments_by at b t (argument_count b) told.first told.second
 
 -- the errors of a built-in member with `count` arguments
-abbrev pub summary_built_in_refusals : Place → Option member.BuiltIn → ValueType → ℕ → ArgumentSummary → List Refusal
+abbrev pub summary_built_in_refusals : Place → Option member.BuiltIn → ValueType → ℕ
+    → OperandSummary → List Refusal
 summary_built_in_refusals at None t count told = refusal_at Y1 at
 summary_built_in_refusals at (Some b) t count told =
     if not (has_member b t) then refusal_at Y1 at else

@@ -1,155 +1,228 @@
-use Rattle.std.proofs.Common.{ap, sym, ◌∙◌, subst, arith, rules, length}
+use Rattle.std.proofs.Common.{List, [], map, length, refl, ap, sym, ◌∙◌, subst, arith, rules, drop, option_map, None, ◌≡◌}
+use Rattle.ti_lang.specs.declared.program.exprs.Expr.{Expr}
+use Rattle.ti_lang.specs.declared.program.exprs.Range.{Range}
+use Rattle.ti_lang.specs.Program.Expressions.{NumberedExp, NumberedExps, MoreExp, numbered_exps, numbered_ranges}
+use Rattle.ti_lang.specs.Program.Expressions as x
 use Rattle.ti_lang.specs.Program.Scope.{contents_of}
-use Rattle.ti_lang.specs.Program.Views.{program_of, expression_of, bound_of}
+use Rattle.ti_lang.specs.Program.Views.{program_of, expression_of, bound_of, numbered_method_of}
+use Rattle.ti_lang.specs.Typing.Expressions.{operand}
 use Rattle.ti_lang.proofs.Lemmas.{seen_static_call, seen_own_call, seen_numbered_point, seen_numbered_rect, seen_numbered_member}
-use Rattle.ti_lang.proofs.Lemmas.{seen_numbered_index}
-use Rattle.ti_types.specs.Mirrors.Walk.{IsTypedRange}
-use Rattle.ti_types.specs.Results.{IsTypedExpr}
-use Rattle.ti_types.proofs.Walked.{none_found, arguments_back, arguments_end, plain_range, stepped_range, no_ranges, ranges_back, ranges_end}
-use Rattle.ti_types.proofs.Forms.{binary_form}
-use Rattle.ti_types.proofs.Rows.{call_at, own_call_at, point_at, rect_at, member_at, index_at}
+use Rattle.ti_lang.proofs.Lemmas.{seen_numbered_index, count_ranges}
+use Rattle.ti_types.specs.declared.operands.Operands.{Operands}
+use Rattle.ti_types.specs.Mirrors.Arguments.{parameter_types}
+use Rattle.ti_types.specs.Mirrors.Walk.{AreOperandResults, IsTyped, AreTyped, operands_before, operands_in}
+use Rattle.ti_types.proofs.Walked.{rest_of, none_found, no_rest, one_more, arguments_back, ranges_from, no_ranges, ranges_back}
+use Rattle.ti_types.proofs.Forms.{count_args, call_form, point_form, rect_form, member_form, index_form, binary_form}
 use Rattle.ti_types.proofs.exprs.TypeChecker.+exp.Goals as goal
 
-pub arguments-loop-i-init : goal.arguments-loop-i-init
-arguments-loop-i-init t c =
-    none_found (program_of c.args.self.now.program.now) (contents_of c.args.scope.now) _ c.args.args.now
-    (length c.args.args.now) c.none-found.result.inner c.none-found.result.misplaced c.none-found.result.types (omega arith)
+-- ---- lists of operands
+
+pub operands-loop-i-init : goal.operands-loop-i-init
+operands-loop-i-init t c =
+    none_found (program_of c.args.self.now.program.now) (contents_of c.args.scope.now) _
+    (rest_of c.args.exprs.now (length c.args.exprs.now)) c.none-found.result
+    (no_rest c.args.exprs.now)
     c.none-found.ensures.inner c.none-found.ensures.misplaced c.none-found.ensures.types
 
-pub arguments-loop-i-preserved : goal.arguments-loop-i-preserved
-arguments-loop-i-preserved t c =
-    arguments_back (program_of c.args.self.now.program.now) (contents_of c.args.scope.now) _ c.args.args.now c.loop-i.i c.index-args-i.result
-    c.exp-judged.result c.loop-i.found.0 c.prepend-found.result.inner c.loop-i.found.1.0 c.prepend-found.result.misplaced
-    c.loop-i.found.1.1.0 c.prepend-found.result.types c.place.result _ (omega arith) (omega arith) c.exp-judged.ensures c.index-args-i.is c.place.ensures c.parameter_type.ensures c.loop-i.invariant
-    c.prepend-found.ensures.inner c.prepend-found.ensures.misplaced c.prepend-found.ensures.types
+pub operands-loop-i-preserved : goal.operands-loop-i-preserved
+operands-loop-i-preserved t c =
+    let l = c.loop-i.found in
+    let found : Operands = record { inner = l.0; misplaced = l.1.0; types = l.1.1.0 } in
+    let e = c.prepend-found.ensures in
+    arguments_back (program_of c.args.self.now.program.now) (contents_of c.args.scope.now) _
+    c.args.exprs.now c.loop-i.i c.index-exprs-i.result c.exp-judged.result found
+    c.prepend-found.result c.place.result _ (omega arith) (omega arith) c.exp-judged.ensures
+    c.index-exprs-i.is c.place.ensures c.parameter_type.ensures c.loop-i.invariant
+    (e.inner, e.misplaced, e.types)
 
-pub arguments-returns : goal.arguments-returns
-arguments-returns t c =
-    arguments_end (program_of c.args.self.now.program.now) (contents_of c.args.scope.now) _ c.args.args.now c.loop-i.i c.loop-i.found.0
-    c.loop-i.found.1.0 c.loop-i.found.1.1.0 (omega arith) c.loop-i.invariant
+pub operands-returns : goal.operands-returns
+operands-returns t c =
+    let us = parameter_types (option_map (λ m. numbered_method_of m.now) c.args.method) in
+    let l = c.loop-i.found in
+    let e : c.loop-i.i ≡ 0 = omega arith in
+    subst (λ n. AreOperandResults (program_of c.args.self.now.program.now)
+    (contents_of c.args.scope.now)
+    (rest_of c.args.exprs.now n) (drop n us) l.0 l.1.0 l.1.1.0) e c.loop-i.invariant
 
-pub form-returns-in-Call : goal.form-returns-in-Call
-form-returns-in-Call t c =
-    let p = program_of c.args.self.now.program.now in
-    let s = contents_of c.args.scope.now in
-    subst (λ z. IsTypedExpr p s z c.add_to.result) (sym (seen_static_call c.args.expr.now c.in-Call.place c.in-Call.number c.in-Call.args c.in-Call.is))
-    (call_at p s c.in-Call.place c.in-Call.number c.in-Call.args.items c.deref.result.now c.deref-in-Call.result.now _
-    c.arguments-found.result c.typed_call.result c.add_to.result c.deref.ensures.value c.deref-in-Call.ensures.value
-    c.method-m.ensures c.arguments-found.ensures c.typed_call.ensures.known c.typed_call.ensures.first c.add_to.ensures.known c.add_to.ensures.first)
-
-pub form-returns-in-OwnCall : goal.form-returns-in-OwnCall
-form-returns-in-OwnCall t c =
-    let p = program_of c.args.self.now.program.now in
-    let s = contents_of c.args.scope.now in
-    subst (λ z. IsTypedExpr p s z c.add_to-in-OwnCall.result) (sym (seen_own_call c.args.expr.now c.in-OwnCall.place c.in-OwnCall.number c.in-OwnCall.args c.in-OwnCall.is))
-    (own_call_at p s c.in-OwnCall.place c.in-OwnCall.number c.in-OwnCall.args.items c.deref-in-OwnCall.result.now
-    c.deref-in-OwnCall-2.result.now _ c.arguments-found-in-OwnCall.result c.typed_call-in-OwnCall.result c.add_to-in-OwnCall.result
-    c.deref-in-OwnCall.ensures.value c.deref-in-OwnCall-2.ensures.value c.method-m-in-OwnCall.ensures c.arguments-found-in-OwnCall.ensures
-    c.typed_call-in-OwnCall.ensures.known c.typed_call-in-OwnCall.ensures.first
-    c.add_to-in-OwnCall.ensures.known c.add_to-in-OwnCall.ensures.first)
-
-pub form-returns-in-Point : goal.form-returns-in-Point
-form-returns-in-Point t c =
-    let p = program_of c.args.self.now.program.now in
-    let s = contents_of c.args.scope.now in
-    subst (λ z. IsTypedExpr p s z c.add_to-in-Point.result) (sym (seen_numbered_point c.args.expr.now c.in-Point.place c.in-Point.parts c.in-Point.is))
-    (point_at p s c.in-Point.place c.in-Point.parts.items c.deref-in-Point.result.now c.arguments-found-in-Point.result c.len.result
-    c.point.result c.add_to-in-Point.result c.deref-in-Point.ensures.value
-    (c.len.ensures ∙ sym c.deref-in-Point.ensures.len ∙ ap length c.deref-in-Point.ensures.value)
-    c.arguments-found-in-Point.ensures c.point.ensures.known c.point.ensures.first c.add_to-in-Point.ensures.known c.add_to-in-Point.ensures.first)
-
-pub form-returns-in-Rect : goal.form-returns-in-Rect
-form-returns-in-Rect t c =
-    let p = program_of c.args.self.now.program.now in
-    let s = contents_of c.args.scope.now in
-    subst (λ z. IsTypedExpr p s z c.add_to-in-Rect.result) (sym (seen_numbered_rect c.args.expr.now c.in-Rect.place c.in-Rect.ranges c.in-Rect.is))
-    (rect_at p s c.in-Rect.place c.in-Rect.ranges.items c.deref-in-Rect.result.now c.ranges-found.result c.len-in-Rect.result c.rect.result c.add_to-in-Rect.result c.deref-in-Rect.ensures.value
-    (c.len-in-Rect.ensures ∙ sym c.deref-in-Rect.ensures.len ∙ ap length c.deref-in-Rect.ensures.value)
-    c.ranges-found.ensures c.rect.ensures.known c.rect.ensures.first c.add_to-in-Rect.ensures.known c.add_to-in-Rect.ensures.first)
-
-pub form-returns-in-Binary : goal.form-returns-in-Binary
-form-returns-in-Binary t c =
-    let p = program_of c.args.self.now.program.now in
-    let s = contents_of c.args.scope.now in
-    subst (λ z. IsTypedExpr p s z c.binary.result) (sym (ap expression_of c.in-Binary.is))
-    (binary_form p s c.in-Binary.place c.in-Binary.operator (expression_of c.in-Binary.left.value)
-    (expression_of c.in-Binary.right.value) c.place-in-Binary.result c.place-in-Binary-2.result c.exp-first.result c.exp-second.result
-    c.binary.result
-    (search rules) (search rules) (search rules) (search rules) c.binary.ensures.known c.binary.ensures.first)
-
-pub operation-returns-in-Binary : goal.operation-returns-in-Binary
-operation-returns-in-Binary t c =
-    let p = program_of c.args.self.now.program.now in
-    let s = contents_of c.args.scope.now in
-    subst (λ z. IsTypedExpr p s z c.binary.result) (sym (ap expression_of c.in-Binary.is))
-    (binary_form p s c.in-Binary.place c.in-Binary.operator (expression_of c.in-Binary.left.value)
-    (expression_of c.in-Binary.right.value) c.place.result c.place-in-Binary.result c.exp-first.result c.exp-second.result
-    c.binary.result
-    (search rules) (search rules) (search rules) (search rules) c.binary.ensures.known c.binary.ensures.first)
-
-pub form-returns-in-Member : goal.form-returns-in-Member
-form-returns-in-Member t c =
-    let p = program_of c.args.self.now.program.now in
-    let s = contents_of c.args.scope.now in
-    subst (λ z. IsTypedExpr p s z c.with.result) (sym (seen_numbered_member c.args.expr.now c.in-Member.place c.in-Member.receiver c.in-Member.name c.in-Member.args c.in-Member.is))
-    (member_at p s c.in-Member.place c.in-Member.receiver.value c.deref-in-Member.result.now c.deref-in-Member-4.result.now c.in-Member.name
-    c.in-Member.args.items c.deref-in-Member-2.result.now c.deref-in-Member-3.result.now
-    c.place-in-Member.result _ _ c.exp-judged-in-Member.result c.arguments-found-in-Member.result c.member-own.result c.with.result
-    (search rules) (search rules) c.deref-in-Member-2.ensures.value c.deref-in-Member-3.ensures.value
-    c.exp-judged-in-Member.ensures c.place-in-Member.ensures c.operand-t.ensures c.member_method-m.ensures c.arguments-found-in-Member.ensures
-    c.member-own.ensures.known c.member-own.ensures.first c.with.ensures.known c.with.ensures.first)
-
-pub form-returns-in-Index : goal.form-returns-in-Index
-form-returns-in-Index t c =
-    let p = program_of c.args.self.now.program.now in
-    let s = contents_of c.args.scope.now in
-    subst (λ z. IsTypedExpr p s z c.with-in-Index.result) (sym (seen_numbered_index c.args.expr.now c.in-Index.place c.in-Index.receiver c.in-Index.indices c.in-Index.is))
-    (index_at p s c.in-Index.place c.in-Index.receiver.value c.deref-in-Index.result.now c.deref-in-Index-3.result.now
-    c.in-Index.indices.items c.deref-in-Index-2.result.now c.place-in-Index.result _ c.exp-judged-in-Index.result
-    c.arguments-found-in-Index.result c.len-in-Index.result c.index-own.result c.with-in-Index.result (search rules) (search rules) c.deref-in-Index-2.ensures.value
-    (c.len-in-Index.ensures ∙ sym c.deref-in-Index-2.ensures.len ∙ ap length c.deref-in-Index-2.ensures.value)
-    c.exp-judged-in-Index.ensures c.place-in-Index.ensures c.operand-in-Index.ensures c.arguments-found-in-Index.ensures
-    c.index-own.ensures.known c.index-own.ensures.first c.with-in-Index.ensures.known c.with-in-Index.ensures.first)
+pub operand_before-returns : goal.operand_before-returns
+operand_before-returns t c =
+    λ (rest : NumberedExps) are.
+    let e = c.prepend.ensures in
+    one_more (program_of c.args.self.now.program.now) (contents_of c.args.scope.now) [] 0
+    (expression_of c.args.expr.now) rest c.exp-judged.result c.args.others c.prepend.result
+    c.place.result
+    None c.exp-judged.ensures c.place.ensures refl are (e.inner, e.misplaced, e.types)
 
 pub range-returns-in-Plain : goal.range-returns-in-Plain
 range-returns-in-Plain t c =
-    let p = program_of c.args.self.now.program.now in
-    let s = contents_of c.args.scope.now in
-    subst (λ z. IsTypedRange p s z c.plain.result) (sym (ap bound_of c.in-Plain.is))
-    (plain_range p s (expression_of c.in-Plain.low) (expression_of c.in-Plain.high) c.exp-first.result c.exp-last.result c.place.result
-    c.place-in-Plain.result c.plain.result c.exp-first.ensures c.exp-last.ensures c.place.ensures c.place-in-Plain.ensures
-    c.plain.ensures.inner c.plain.ensures.misplaced c.plain.ensures.types)
+    λ (rest : NumberedExps) are.
+    subst (λ z. AreTyped c.args.self.now c.args.scope.now
+    (operands_before z rest) [] c.operand_before.result)
+    (sym (ap bound_of c.in-Plain.is))
+    (c.operand_before.ensures (MoreExp (expression_of c.in-Plain.high) rest)
+    (c.operand_before-behind.ensures rest are))
 
 pub range-returns-in-Stepped : goal.range-returns-in-Stepped
 range-returns-in-Stepped t c =
-    let p = program_of c.args.self.now.program.now in
-    let s = contents_of c.args.scope.now in
-    let low = expression_of c.in-Stepped.low in
-    let high = expression_of c.in-Stepped.high in
-    subst (λ z. IsTypedRange p s z c.with_step.result) (sym (ap bound_of c.in-Stepped.is))
-    (stepped_range p s low high (expression_of c.in-Stepped.step) c.exp-first-in-Stepped.result c.exp-last-in-Stepped.result c.exp-by.result
-    c.place-in-Stepped-3.result c.plain-in-Stepped.result c.with_step.result
-    c.exp-first-in-Stepped.ensures c.exp-last-in-Stepped.ensures c.exp-by.ensures c.place-in-Stepped-3.ensures
-    (plain_range p s low high c.exp-first-in-Stepped.result c.exp-last-in-Stepped.result c.place-in-Stepped.result
-    c.place-in-Stepped-2.result c.plain-in-Stepped.result c.exp-first-in-Stepped.ensures c.exp-last-in-Stepped.ensures
-    c.place-in-Stepped.ensures c.place-in-Stepped-2.ensures c.plain-in-Stepped.ensures.inner c.plain-in-Stepped.ensures.misplaced c.plain-in-Stepped.ensures.types)
-    c.with_step.ensures.inner c.with_step.ensures.misplaced c.with_step.ensures.types)
+    λ (rest : NumberedExps) are.
+    let last = MoreExp (expression_of c.in-Stepped.step) rest in
+    subst (λ z. AreTyped c.args.self.now c.args.scope.now
+    (operands_before z rest) [] c.operand_before-in-Stepped.result)
+    (sym (ap bound_of c.in-Stepped.is))
+    (c.operand_before-in-Stepped.ensures (MoreExp (expression_of c.in-Stepped.high) last)
+    (c.operand_before-middle.ensures last (c.operand_before-last.ensures rest are)))
 
 pub ranges-loop-i-init : goal.ranges-loop-i-init
 ranges-loop-i-init t c =
-    no_ranges (program_of c.args.self.now.program.now) (contents_of c.args.scope.now) c.args.ranges.now
-    (length c.args.ranges.now) c.none-found.result.inner c.none-found.result.misplaced c.none-found.result.types (omega arith)
-    c.none-found.ensures.inner c.none-found.ensures.misplaced c.none-found.ensures.types
+    none_found (program_of c.args.self.now.program.now) (contents_of c.args.scope.now) []
+    (operands_in (ranges_from c.args.ranges.now (length c.args.ranges.now))) c.none-found.result
+    (no_ranges c.args.ranges.now) c.none-found.ensures.inner c.none-found.ensures.misplaced
+    c.none-found.ensures.types
 
 pub ranges-loop-i-preserved : goal.ranges-loop-i-preserved
 ranges-loop-i-preserved t c =
-    ranges_back (program_of c.args.self.now.program.now) (contents_of c.args.scope.now) c.args.ranges.now c.loop-i.i c.index-ranges-i.result
-    c.range-range.result c.loop-i.found.0 c.prepend_to-found.result.inner c.loop-i.found.1.0 c.prepend_to-found.result.misplaced
-    c.loop-i.found.1.1.0 c.prepend_to-found.result.types (omega arith)
-    (omega arith) c.range-range.ensures c.index-ranges-i.is c.loop-i.invariant c.prepend_to-found.ensures.inner c.prepend_to-found.ensures.misplaced
-    c.prepend_to-found.ensures.types
+    subst (λ z. AreTyped c.args.self.now c.args.scope.now z [] c.range-found.result)
+    (ranges_back c.args.ranges.now c.loop-i.i c.index-ranges-i.result (omega arith)
+    (omega arith) c.index-ranges-i.is)
+    (c.range-found.ensures _ c.loop-i.invariant)
 
 pub ranges-returns : goal.ranges-returns
 ranges-returns t c =
-    ranges_end (program_of c.args.self.now.program.now) (contents_of c.args.scope.now) c.args.ranges.now c.loop-i.i c.loop-i.found.0
-    c.loop-i.found.1.0 c.loop-i.found.1.1.0 (omega arith) c.loop-i.invariant
+    let l = c.loop-i.found in
+    let e : c.loop-i.i ≡ 0 = omega arith in
+    subst (λ n. AreOperandResults (program_of c.args.self.now.program.now)
+    (contents_of c.args.scope.now)
+    (operands_in (ranges_from c.args.ranges.now n)) [] l.0 l.1.0 l.1.1.0) e c.loop-i.invariant
+
+-- ---- forms
+
+pub call-returns-clause-direct : goal.call-returns-clause-direct
+call-returns-clause-direct t c =
+    let xs = numbered_exps (map expression_of c.args.args.now) in
+    call_form (program_of c.args.self.now.program.now) (contents_of c.args.scope.now)
+    (x.Call c.args.place c.args.number xs) c.args.place c.args.number xs _ c.operands-found.result
+    (length c.args.args.now) c.typed_call.result c.add_to.result refl refl refl
+    c.method-m.ensures c.operands-found.ensures
+    (count_args c.args.args.now) c.typed_call.ensures.known c.typed_call.ensures.first
+    c.add_to.ensures.known c.add_to.ensures.first
+
+pub call-returns-clause-own : goal.call-returns-clause-own
+call-returns-clause-own t c =
+    let xs = numbered_exps (map expression_of c.args.args.now) in
+    call_form (program_of c.args.self.now.program.now) (contents_of c.args.scope.now)
+    (x.OwnCall c.args.place c.args.number xs) c.args.place
+    c.args.number xs _ c.operands-found.result
+    (length c.args.args.now) c.typed_call.result c.add_to.result refl refl refl
+    c.method-m.ensures c.operands-found.ensures
+    (count_args c.args.args.now) c.typed_call.ensures.known c.typed_call.ensures.first
+    c.add_to.ensures.known c.add_to.ensures.first
+
+pub point-returns : goal.point-returns
+point-returns t c =
+    point_form (program_of c.args.self.now.program.now) (contents_of c.args.scope.now) c.args.place
+    (numbered_exps (map expression_of c.args.parts.now)) c.operands-found.result
+    (length c.args.parts.now) c.point.result c.add_to.result
+    c.operands-found.ensures (count_args c.args.parts.now) c.point.ensures.known
+    c.point.ensures.first c.add_to.ensures.known c.add_to.ensures.first
+
+pub rect-returns : goal.rect-returns
+rect-returns t c =
+    rect_form (program_of c.args.self.now.program.now) (contents_of c.args.scope.now) c.args.place
+    (numbered_ranges (map bound_of c.args.ranges.now)) c.ranges-found.result
+    (length c.args.ranges.now) c.rect.result c.add_to.result
+    c.ranges-found.ensures (count_ranges c.args.ranges.now) c.rect.ensures.known
+    c.rect.ensures.first c.add_to.ensures.known c.add_to.ensures.first
+
+pub binary-returns : goal.binary-returns
+binary-returns t c =
+    λ (e : NumberedExp) is_first is_at.
+    binary_form (program_of c.args.self.now.program.now) (contents_of c.args.scope.now) c.args.place
+    c.args.operator e (expression_of c.args.right.now) c.args.at c.place-at_right.result
+    c.args.first
+    c.exp-second.result c.binary.result is_first c.exp-second.ensures is_at c.place-at_right.ensures
+    c.binary.ensures.known c.binary.ensures.first
+
+pub member-returns : goal.member-returns
+member-returns t c =
+    λ (e : NumberedExp) is_judged is_at.
+    member_form (program_of c.args.self.now.program.now) (contents_of c.args.scope.now) c.args.place
+    e c.args.name (numbered_exps (map expression_of c.args.args.now)) c.args.at _ _ c.args.judged
+    c.operands-found.result (length c.args.args.now) c.member-own.result c.with.result is_judged
+    is_at
+    (c.operand-t.ensures ∙ ap operand is_judged.0) c.member_method-m.ensures
+    c.operands-found.ensures
+    (count_args c.args.args.now) c.member-own.ensures.known c.member-own.ensures.first
+    c.with.ensures.known c.with.ensures.first
+
+pub index-returns-clause-whole : goal.index-returns-clause-whole
+index-returns-clause-whole t c =
+    λ (e : NumberedExp) is_judged is_at.
+    index_form (program_of c.args.self.now.program.now) (contents_of c.args.scope.now) c.args.place
+    e (numbered_exps (map expression_of c.args.indices.now)) c.args.at _ c.args.judged
+    c.operands-found.result (length c.args.indices.now) c.index-own.result c.with.result is_judged
+    is_at (c.operand-t.ensures ∙ ap operand is_judged.0) c.operands-found.ensures
+    (count_args c.args.indices.now) c.index-own.ensures.known c.index-own.ensures.first
+    c.with.ensures.known c.with.ensures.first
+
+-- ---- the form of an expression
+
+pub exp-returns-in-Call : goal.exp-returns-in-Call
+exp-returns-in-Call t c =
+    subst (λ (z : NumberedExp). IsTyped c.args.self.now c.args.scope.now z c.call.result)
+    (ap (λ (xs : List Expr). x.Call c.in-Call.place c.in-Call.number
+    (numbered_exps (map expression_of xs))) c.deref.ensures.value
+    ∙ sym (seen_static_call c.args.expr.now c.in-Call.place c.in-Call.number c.in-Call.args
+    c.in-Call.is)) c.call.ensures.direct
+
+pub exp-returns-in-OwnCall : goal.exp-returns-in-OwnCall
+exp-returns-in-OwnCall t c =
+    subst (λ (z : NumberedExp). IsTyped c.args.self.now c.args.scope.now z c.call-in-OwnCall.result)
+    (ap (λ (xs : List Expr). x.OwnCall c.in-OwnCall.place c.in-OwnCall.number
+    (numbered_exps (map expression_of xs))) c.deref-in-OwnCall.ensures.value
+    ∙ sym (seen_own_call c.args.expr.now c.in-OwnCall.place c.in-OwnCall.number c.in-OwnCall.args
+    c.in-OwnCall.is)) c.call-in-OwnCall.ensures.own
+
+pub exp-returns-in-Point : goal.exp-returns-in-Point
+exp-returns-in-Point t c =
+    subst (λ (z : NumberedExp). IsTyped c.args.self.now c.args.scope.now z c.point.result)
+    (ap (λ (xs : List Expr). x.Point c.in-Point.place (numbered_exps (map expression_of xs)))
+    c.deref-in-Point.ensures.value
+    ∙ sym (seen_numbered_point c.args.expr.now c.in-Point.place c.in-Point.parts c.in-Point.is))
+    c.point.ensures
+
+pub exp-returns-in-Rect : goal.exp-returns-in-Rect
+exp-returns-in-Rect t c =
+    subst (λ (z : NumberedExp). IsTyped c.args.self.now c.args.scope.now z c.rect.result)
+    (ap (λ (rs : List Range). x.Rect c.in-Rect.place (numbered_ranges (map bound_of rs)))
+    c.deref-in-Rect.ensures.value
+    ∙ sym (seen_numbered_rect c.args.expr.now c.in-Rect.place c.in-Rect.ranges c.in-Rect.is))
+    c.rect.ensures
+
+pub exp-returns-in-Binary : goal.exp-returns-in-Binary
+exp-returns-in-Binary t c =
+    let left = expression_of c.in-Binary.left.value in
+    subst (λ (z : NumberedExp). IsTyped c.args.self.now c.args.scope.now z c.binary.result)
+    (ap (λ (z : Expr). x.Binary c.in-Binary.place c.in-Binary.operator left (expression_of z))
+    c.deref-in-Binary-3.ensures
+    ∙ sym (ap expression_of c.in-Binary.is))
+    (c.binary.ensures left (search rules) (search rules))
+
+pub exp-returns-in-Member : goal.exp-returns-in-Member
+exp-returns-in-Member t c =
+    let receiver = expression_of c.in-Member.receiver.value in
+    subst (λ (z : NumberedExp). IsTyped c.args.self.now c.args.scope.now z c.member.result)
+    (ap (λ (xs : List Expr). x.Member c.in-Member.place receiver c.in-Member.name
+    (numbered_exps (map expression_of xs))) c.deref-in-Member-3.ensures.value
+    ∙ sym (seen_numbered_member c.args.expr.now c.in-Member.place c.in-Member.receiver
+    c.in-Member.name c.in-Member.args c.in-Member.is))
+    (c.member.ensures receiver (search rules) (search rules))
+
+pub exp-returns-in-Index : goal.exp-returns-in-Index
+exp-returns-in-Index t c =
+    let receiver = expression_of c.in-Index.receiver.value in
+    subst (λ (z : NumberedExp). IsTyped c.args.self.now c.args.scope.now z c.index.result.whole)
+    (ap (λ (xs : List Expr). x.Index c.in-Index.place receiver
+    (numbered_exps (map expression_of xs))) c.deref-in-Index-3.ensures.value
+    ∙ sym (seen_numbered_index c.args.expr.now c.in-Index.place c.in-Index.receiver
+    c.in-Index.indices c.in-Index.is))
+    (c.index.ensures.whole receiver (search rules) (search rules))
