@@ -1,10 +1,10 @@
 // The rules of types for one statement by itself, without the statements in it.
-ghost use Rattle.std.specs.Prelude.{◌≡◌, ◌++◌, not, is_some, is_none, false};
+ghost use Rattle.std.specs.Prelude.{◌≡◌, ◌++◌, is_some, is_none, false};
 ghost use Rattle.std.specs.Option.{option_map};
 ghost use Rattle.ti_syntax.specs.Trees.Views.{maybe_of};
 ghost use Rattle.ti_lang.specs.Program.Types.{Int};
 ghost use Rattle.ti_lang.specs.Program.Statements as st;
-ghost use Rattle.ti_lang.specs.Program.Views.{expression_of, type_use_of, value_type_of, initial_of, printed_of, statement_of};
+ghost use Rattle.ti_lang.specs.Program.Views.{expression_of, type_use_of, initial_of, printed_of, statement_of};
 ghost use Rattle.ti_lang.specs.Typing.Kinds.{domain_dim};
 ghost use Rattle.ti_lang.specs.Typing.Declared.{result_type};
 ghost use Rattle.ti_lang.specs.Typing.Expressions.{operand_type};
@@ -17,10 +17,12 @@ ghost use Rattle.ti_rules.specs.Broken.Statements.{narrows, result_refusals, upd
 ghost use Rattle.ti_rules.specs.Broken.RightSides.{inner_refusals};
 ghost use Rattle.ti_rules.specs.Broken.Targets.{write_refusals};
 ghost use Rattle.ti_check.specs.Mirrors.Contexts.{program_at, around_of, scope_at};
+ghost use Rattle.ti_check.specs.Mirrors.Targets.{IsReceiver};
 
 use crate::context::CheckContext;
+use crate::targets::Target;
 use ti_base::Place;
-use ti_lang::program::{Expr, Init, Printed, Stmt, Ty, TypeUse};
+use ti_lang::program::{Expr, Init, Printed, Stmt, TypeUse};
 use ti_lang::typing::TyRef;
 use ti_rules::{Refusal, Rule, earlier_of, refused_if};
 use ti_single::deref_init;
@@ -28,17 +30,6 @@ use ti_syntax::tree::{BinaryOperator, StepOperator};
 use ti_types::{assign_refusal, binary_type, operand_refusal, result_type, type_words};
 
 // ---- values and their targets
-
-// The error of a value that can't be assigned to a variable of the type `wanted`.
-#[tactic(auto, unfolding(ti_rules::specs::Mirrors::First::earliest))]
-fn value_misfit<'a>(place: Place, ty: Option<TyRef<'a>>, wanted: &'a Ty) -> Option<Refusal>
-    ensures { result ≡ earliest (judged (option_map ty_view ty.entry) (λ ty. misfit_at place ty (value_type_of wanted.now))) }
-{
-    match ty {
-        Some(ty) => assign_refusal(place, ty, TyRef::of(wanted, false)),
-        None => None,
-    }
-}
 
 // Whether a compound assignment narrows its result: a long to an int.
 fn narrows(from: TyRef, target: TyRef) -> bool
@@ -94,14 +85,10 @@ fn operator_of(operator: StepOperator) -> BinaryOperator
 
 // ---- conditions, prints and results
 
-#[tactic(auto, unfolding(ti_rules::specs::Mirrors::First::earliest))]
-fn condition_mistaken(place: Place, ty: Option<TyRef>) -> Option<Refusal>
-    ensures { result ≡ earliest (judged (option_map ty_view ty.entry) (λ ty. refused_at (not (is_boolean ty)) Y3 place)) }
+fn is_boolean(ty: TyRef) -> bool
+    ensures { result ≡ is_boolean (ty_view ty.entry) }
 {
-    match ty {
-        Some(ty) => refused_if(!matches!(ty, TyRef::Bool), Rule::Y3, place),
-        None => None,
-    }
+    matches!(ty, TyRef::Bool)
 }
 
 fn is_printed(ty: TyRef) -> bool
@@ -113,16 +100,6 @@ fn is_printed(ty: TyRef) -> bool
     }
 }
 
-#[tactic(auto, unfolding(ti_rules::specs::Mirrors::First::earliest))]
-fn print_mistaken(place: Place, ty: Option<TyRef>) -> Option<Refusal>
-    ensures { result ≡ earliest (judged (option_map ty_view ty.entry) (λ ty. mistaken_at place (is_printed ty) false)) }
-{
-    match ty {
-        Some(ty) => operand_refusal(place, is_printed(ty), false),
-        None => None,
-    }
-}
-
 fn given_back<'a>(place: Place, wanted: TyRef<'a>, ty: TyRef<'a>) -> Option<Refusal>
     ensures { result ≡ earliest (given_back place (ty_view wanted.entry) (ty_view ty.entry)) }
 {
@@ -130,26 +107,6 @@ fn given_back<'a>(place: Place, wanted: TyRef<'a>, ty: TyRef<'a>) -> Option<Refu
         refused_if(true, Rule::Y6, place)
     } else {
         assign_refusal(place, ty, wanted)
-    }
-}
-
-#[tactic(auto, unfolding(ti_rules::specs::Mirrors::First::earliest))]
-fn maybe_given_back<'a>(place: Place, wanted: TyRef<'a>, ty: Option<TyRef<'a>>) -> Option<Refusal>
-    ensures { result ≡ earliest (judged (option_map ty_view ty.entry) (λ ty. given_back place (ty_view wanted.entry) ty)) }
-{
-    match ty {
-        Some(ty) => given_back(place, wanted, ty),
-        None => None,
-    }
-}
-
-#[tactic(auto, unfolding(ti_rules::specs::Mirrors::First::earliest))]
-fn domain_mistaken(place: Place, ty: Option<TyRef>) -> Option<Refusal>
-    ensures { result ≡ earliest (judged (option_map ty_view ty.entry) (λ ty. mistaken_at place (is_some (domain_dim ty)) false)) }
-{
-    match ty {
-        Some(ty) => operand_refusal(place, ty.domain_dim().is_some(), false),
-        None => None,
     }
 }
 
@@ -171,26 +128,36 @@ impl<'a> CheckContext<'a> {
         let _ = variable;
         let value = self.initial(value);
         let parts = earlier_of(type_words(true, ty), value.first);
-        earlier_of(parts, value_misfit(place, value.ty, &ty.ty))
+        match value.ty {
+            Some(given) => earlier_of(
+                parts,
+                assign_refusal(place, given, TyRef::of(&ty.ty, false)),
+            ),
+            None => parts,
+        }
     }
 
-    // The first error of an assignment of a value of type `value_ty` to a target of type `ty`; none if one of them has no type.
+    // The first error of an assignment of a value of type `value_ty` to a target; none if one of them has no type.
     #[tactic(auto, unfolding(ti_rules::specs::Mirrors::First::earliest), using(crate::proofs::Written::written_laws))]
     fn write_value(
         self,
         place: Place,
         target: &'a Expr,
-        ty: Option<TyRef<'a>>,
+        t: Target<'a>,
         value_ty: Option<TyRef<'a>>,
     ) -> Option<Refusal>
-        ensures { result ≡ earliest (both_judged (option_map ty_view ty.entry) (option_map ty_view value_ty.entry)
+        requires { IsReceiver self target.now t.receiver }
+        ensures { result
+            ≡ earliest (both_judged (option_map ty_view t.entry.ty)
+            (option_map ty_view value_ty.entry)
             (λ ty value_ty. write_refusals (program_at self.entry) (scope_at self.entry) place (expression_of target.now)
             (misfit_at place value_ty ty))) }
     {
-        match (ty, value_ty) {
+        match (t.ty, value_ty) {
             (Some(ty), Some(value_ty)) => self.write(
                 place,
                 target,
+                t.receiver,
                 assign_refusal(place, value_ty, ty),
             ),
             _ => None,
@@ -205,27 +172,31 @@ impl<'a> CheckContext<'a> {
         let t = self.target(target);
         let u = self.initial(value);
         let parts = earlier_of(t.first, u.first);
-        earlier_of(parts, self.write_value(place, target, t.ty, u.ty))
+        earlier_of(parts, self.write_value(place, target, t, u.ty))
     }
 
-    // The first error of a compound assignment of a value of type `value_ty` to a target of type `ty`; none if one of them has no type.
+    // The first error of a compound assignment of a value of type `value_ty` to a target; none if one of them has no type.
     #[tactic(auto, unfolding(ti_rules::specs::Mirrors::First::earliest), using(crate::proofs::Written::written_laws))]
     fn write_updated(
         self,
         place: Place,
         operator: BinaryOperator,
         target: &'a Expr,
-        ty: Option<TyRef<'a>>,
+        t: Target<'a>,
         value_ty: Option<TyRef<'a>>,
     ) -> Option<Refusal>
-        ensures { result ≡ earliest (both_judged (option_map ty_view ty.entry) (option_map ty_view value_ty.entry)
+        requires { IsReceiver self target.now t.receiver }
+        ensures { result
+            ≡ earliest (both_judged (option_map ty_view t.entry.ty)
+            (option_map ty_view value_ty.entry)
             (λ ty value_ty. write_refusals (program_at self.entry) (scope_at self.entry) place (expression_of target.now)
             (update_refusals place operator ty value_ty))) }
     {
-        match (ty, value_ty) {
+        match (t.ty, value_ty) {
             (Some(ty), Some(value_ty)) => self.write(
                 place,
                 target,
+                t.receiver,
                 update_refusal(place, operator, ty, value_ty),
             ),
             _ => None,
@@ -246,29 +217,27 @@ impl<'a> CheckContext<'a> {
         let t = self.target(target);
         let u = self.value(value);
         let parts = earlier_of(t.first, u.first);
-        earlier_of(
-            parts,
-            self.write_updated(place, operator, target, t.ty, u.ty),
-        )
+        earlier_of(parts, self.write_updated(place, operator, target, t, u.ty))
     }
 
-    // The first error of a step of a target of type `ty`; none if it has no type.
+    // The first error of a step of a target; none if it has no type.
     #[tactic(auto, unfolding(ti_rules::specs::Mirrors::First::earliest), using(crate::proofs::Written::written_laws))]
     fn write_stepped(
         self,
         place: Place,
         operator: StepOperator,
         target: &'a Expr,
-        ty: Option<TyRef<'a>>,
+        t: Target<'a>,
     ) -> Option<Refusal>
-        ensures { result ≡ earliest (judged (option_map ty_view ty.entry)
+        requires { IsReceiver self target.now t.receiver }
+        ensures { result ≡ earliest (judged (option_map ty_view t.entry.ty)
             (λ ty. write_refusals (program_at self.entry) (scope_at self.entry) place (expression_of target.now)
             (update_refusals place (operator_of operator) ty Int))) }
     {
-        match ty {
+        match t.ty {
             Some(ty) => {
                 let own = update_refusal(place, operator_of(operator), ty, TyRef::Int);
-                self.write(place, target, own)
+                self.write(place, target, t.receiver, own)
             }
             None => None,
         }
@@ -280,7 +249,7 @@ impl<'a> CheckContext<'a> {
             (st.Step place operator (expression_of target.now))) }
     {
         let t = self.target(target);
-        earlier_of(t.first, self.write_stepped(place, operator, target, t.ty))
+        earlier_of(t.first, self.write_stepped(place, operator, target, t))
     }
 
     #[tactic(auto, using(ti_rules::proofs::Lemmas::firsts))]
@@ -288,10 +257,13 @@ impl<'a> CheckContext<'a> {
         ensures { result ≡ earliest (condition_refusals (program_at self.entry) (scope_at self.entry) (expression_of expr.now)) }
     {
         let condition = self.operand_value(expr);
-        earlier_of(
-            condition.first,
-            condition_mistaken(expr.place(), condition.ty),
-        )
+        match condition.ty {
+            Some(ty) => {
+                let own = refused_if(!is_boolean(ty), Rule::Y3, expr.place());
+                earlier_of(condition.first, own)
+            }
+            None => condition.first,
+        }
     }
 
     #[tactic(auto, unfolding(ti_rules::specs::Mirrors::First::earliest))]
@@ -310,7 +282,10 @@ impl<'a> CheckContext<'a> {
         ensures { result ≡ earliest (printed_refusals (program_at self.entry) (scope_at self.entry) place (expression_of expr.now)) }
     {
         let value = self.operand_value(expr);
-        earlier_of(value.first, print_mistaken(place, value.ty))
+        match value.ty {
+            Some(ty) => earlier_of(value.first, operand_refusal(place, is_printed(ty), false)),
+            None => value.first,
+        }
     }
 
     #[tactic(auto, unfolding(ti_rules::specs::Mirrors::First::earliest))]
@@ -334,7 +309,10 @@ impl<'a> CheckContext<'a> {
         match value {
             Some(e) => {
                 let value = self.operand_value(e);
-                earlier_of(value.first, maybe_given_back(place, wanted, value.ty))
+                match value.ty {
+                    Some(ty) => earlier_of(value.first, given_back(place, wanted, ty)),
+                    None => value.first,
+                }
             }
             None => refused_if(!wanted.is_void(), Rule::Y6, place),
         }
@@ -347,7 +325,13 @@ impl<'a> CheckContext<'a> {
             (λ t. mistaken_at place (is_some (domain_dim t)) false)) }
     {
         let value = self.operand_value(domain);
-        earlier_of(value.first, domain_mistaken(place, value.ty))
+        match value.ty {
+            Some(ty) => {
+                let is_domain = ty.domain_dim().is_some();
+                earlier_of(value.first, operand_refusal(place, is_domain, false))
+            }
+            None => value.first,
+        }
     }
 
     fn jump(self, place: Place) -> Option<Refusal>
@@ -384,7 +368,7 @@ impl<'a> CheckContext<'a> {
                 operator,
                 target,
             } => self.step(*place, *operator, target),
-            Stmt::Call(e) => self.target(e).first,
+            Stmt::Call(e) => self.exp(e).first,
             Stmt::Print(place, what) => self.print(*place, what),
             Stmt::If { condition, .. } => self.condition(condition),
             Stmt::While { condition, .. } => self.condition(condition),

@@ -1,20 +1,34 @@
-// Targets of assignments: what can't be assigned to.
+// Targets of assignments: their types, and what can't be assigned to.
 ghost use Rattle.std.specs.Prelude.{◌≡◌, false};
 ghost use Rattle.std.specs.Option.{option_map, option_map_or, option_and_then};
 ghost use Rattle.ti_lang.specs.Program.Views.{program_of, expression_of};
 ghost use Rattle.ti_lang.specs.Typing.Declared.{field_type};
 ghost use Rattle.ti_lang.specs.Typing.Kinds.{is_point_type};
 ghost use Rattle.ti_lang.specs.Typing.TyRef.{ty_view};
+ghost use Rattle.ti_lang.specs.Typing.Expressions.{operand_type};
+ghost use Rattle.ti_rules.specs.Mirrors.First.{earliest};
+ghost use Rattle.ti_rules.specs.Broken.Expressions.{exp_refusals};
 ghost use Rattle.ti_rules.specs.Broken.Targets.{is_foreach_variable, is_point_coordinate, maybe_local, hidden_field, hidden_element, is_hidden_local};
 ghost use Rattle.ti_check.specs.Mirrors.Contexts.{program_at, scope_at};
-ghost use Rattle.ti_check.specs.Mirrors.Targets.{write_refusal};
+ghost use Rattle.ti_check.specs.Mirrors.Targets.{IsReceiver, write_refusal};
 
 use crate::context::CheckContext;
 use ti_base::Place;
 use ti_lang::program::{Declared, Expr, ProgramData};
 use ti_lang::typing::{TyRef, field_type, named_field_type};
 use ti_rules::{Refusal, Rule, earlier_of, refused_if};
-use ti_single::deref_expr;
+use ti_types::TypeChecker;
+
+/// The typing result of the target of an assignment.
+#[derive(Clone, Copy)]
+pub struct Target<'a> {
+    /// Its type, if it has one.
+    pub ty: Option<TyRef<'a>>,
+    /// The first type error in it, apart from the rules on assignment.
+    pub first: Option<Refusal>,
+    /// The type of its receiver, if it is a field of an object or an element and the receiver has a type.
+    pub receiver: Option<TyRef<'a>>,
+}
 
 /// Whether the target is a foreach variable.
 #[tactic(auto, using(ti_lang::proofs::Lemmas::program_bridges))]
@@ -85,44 +99,70 @@ fn hidden_element(ty: Option<TyRef>) -> bool
 }
 
 impl<'a> CheckContext<'a> {
+    /// The typing result of an expression as the target of an assignment.
+    pub fn target(self, expr: &'a Expr) -> Target<'a>
+        ensures ty { option_map ty_view result.ty
+            ≡ operand_type (program_at self.entry) (scope_at self.entry) (expression_of expr.now) }
+        ensures first { result.first
+            ≡ earliest (exp_refusals (program_at self.entry) (scope_at self.entry)
+            (expression_of expr.now)) }
+        ensures receiver { IsReceiver self.entry expr.now result.receiver }
+    {
+        let judge = TypeChecker {
+            program: &self.program.parts,
+        };
+        let judged = judge.target(self.scope, expr);
+        Target {
+            ty: judged.whole.operand(),
+            first: judged.whole.first,
+            receiver: judged.receiver,
+        }
+    }
+
     // Whether the target is a coordinate of a point.
     #[tactic(auto, using(ti_lang::proofs::Lemmas::program_bridges))]
-    fn is_coordinate(self, target: &'a Expr) -> bool
+    fn is_coordinate(self, target: &'a Expr, receiver: Option<TyRef<'a>>) -> bool
+        requires { IsReceiver self target.now receiver }
         ensures { result ≡ is_point_coordinate (program_at self.entry) (scope_at self.entry) (expression_of target.now) }
     {
         match target {
-            Expr::Index { receiver, .. } => is_point(self.target(deref_expr(receiver)).ty),
+            Expr::Index { .. } => is_point(receiver),
             _ => false,
         }
     }
 
     // Whether the target is a field or an element of a local type that is reached through a global reference.
     #[tactic(auto, using(ti_lang::proofs::Lemmas::program_bridges))]
-    fn is_hidden_local(self, target: &'a Expr) -> bool
+    fn is_hidden_local(self, target: &'a Expr, receiver: Option<TyRef<'a>>) -> bool
+        requires { IsReceiver self target.now receiver }
         ensures { result ≡ is_hidden_local (program_at self.entry) (scope_at self.entry) (expression_of target.now) }
     {
         match target {
             Expr::OwnField(_, field) => is_own_local(&self.program.parts, self.this(), *field),
-            Expr::Select { receiver, name, .. } => {
-                let t = self.target(deref_expr(receiver)).ty;
-                hidden_field(&self.program.parts, t, *name)
-            }
-            Expr::Index { receiver, .. } => hidden_element(self.target(deref_expr(receiver)).ty),
+            Expr::Select { name, .. } => hidden_field(&self.program.parts, receiver, *name),
+            Expr::Index { .. } => hidden_element(receiver),
             _ => false,
         }
     }
 
-    /// The first error of an assignment to a target; `value` is the first error of the value. A coordinate of a point can't be assigned to
-    /// (Y1), a foreach variable neither (Y2), nor a local field or element through a global reference (Q2).
+    /// The first error of an assignment to a target whose receiver has this type; `value` is the first error of the value. A coordinate
+    /// of a point can't be assigned to (Y1), a foreach variable neither (Y2), nor a local field or element through a global reference (Q2).
     #[tactic(auto, using(ti_rules::proofs::Lemmas::firsts))]
-    pub fn write(self, place: Place, target: &'a Expr, value: Option<Refusal>) -> Option<Refusal>
+    pub fn write(
+        self,
+        place: Place,
+        target: &'a Expr,
+        receiver: Option<TyRef<'a>>,
+        value: Option<Refusal>,
+    ) -> Option<Refusal>
+        requires { IsReceiver self target.now receiver }
         ensures { result ≡ write_refusal (program_at self.entry) (scope_at self.entry) place (expression_of target.now) value }
     {
-        if self.is_coordinate(target) {
+        if self.is_coordinate(target, receiver) {
             return refused_if(true, Rule::Y1, place);
         }
         let of_foreach = refused_if(is_foreach_variable(target), Rule::Y2, place);
-        let hidden = refused_if(self.is_hidden_local(target), Rule::Q2, place);
+        let hidden = refused_if(self.is_hidden_local(target, receiver), Rule::Q2, place);
         earlier_of(earlier_of(of_foreach, hidden), value)
     }
 }

@@ -14,7 +14,7 @@ ghost use Rattle.ti_rules.specs.Mirrors.First.{earliest};
 ghost use Rattle.ti_rules.specs.InitialTypes.{right_side_type};
 ghost use Rattle.ti_rules.specs.StmtInContext.{singles_in};
 ghost use Rattle.ti_rules.specs.Parts.{parts_of_ranges};
-ghost use Rattle.ti_rules.specs.Broken.Expressions.{refusals_at, exp_refusals};
+ghost use Rattle.ti_rules.specs.Broken.Expressions.{refusals_at};
 ghost use Rattle.ti_rules.specs.Broken.Misplaced.{gives_nothing, bounds_misplaced};
 ghost use Rattle.ti_rules.specs.Broken.RightSides.{inner_refusals, value_refusals};
 ghost use Rattle.ti_rules.specs.SingleRules.{single_refusals_at};
@@ -114,18 +114,6 @@ impl<'a> CheckContext<'a> {
         TypedValue {
             ty: nonvoid_type(judged.ty),
             first: earlier_of(judged.first, nothing),
-        }
-    }
-
-    /// An expression as a target: its type, and its first type error apart from the rules on assignment.
-    pub fn target(self, expr: &'a Expr) -> TypedValue<'a>
-        ensures ty { option_map ty_view result.ty ≡ operand_type (program_at self.entry) (scope_at self.entry) (expression_of expr.now) }
-        ensures first { result.first ≡ earliest (exp_refusals (program_at self.entry) (scope_at self.entry) (expression_of expr.now)) }
-    {
-        let judged = self.exp(expr);
-        TypedValue {
-            ty: judged.operand(),
-            first: judged.first,
         }
     }
 

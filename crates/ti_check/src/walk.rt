@@ -68,7 +68,7 @@ impl<'a> CheckContext<'a> {
             ≡ variables_inside (program_at self.entry) (scope_at self.entry) number (expression_of domain.now)) }
     {
         let is_single = self.is_single_inside(domain);
-        let dim = domain_dim(self.target(domain).ty);
+        let dim = domain_dim(self.exp(domain).operand());
         let variables = with_foreach_variable(
             alloc,
             unused,
