@@ -1,7 +1,7 @@
 -- The total cost of a share after one of its objects changes.
-use Rattle.std.proofs.Common.{◌≡◌, ℕ, ◌+◌, ◌<◌, ◌≤◌, List, map, length, get_or, set, Option, Some, None, IsSome, IsSomeAnd, refl, sym, ap, subst, ◌∙◌, arith, sum_by, true, false}
-use Rattle.std.proofs.lemmas.List.{map-set, length-map, get_or-map}
-use Rattle.std.proofs.lemmas.List.Sums.{sum_by-set}
+use Rattle.std.proofs.Common.{◌≡◌, ℕ, ◌+◌, ◌<◌, ◌≤◌, List, [], ◌∷◌, ◌++◌, map, length, get_or, set, Option, Some, None, IsSome, IsSomeAnd, refl, sym, ap, subst, ◌∙◌, arith, sum_by, true, false}
+use Rattle.std.proofs.lemmas.List.{map-set, map-append, length-map, get_or-map}
+use Rattle.std.proofs.lemmas.List.Sums.{sum_by-set, sum_by_push}
 use Rattle.ti_heap.specs.declared.allocation.Allocation.{Allocation}
 use Rattle.ti_heap.specs.declared.allocation.Allocation.TheVariants.{Gone}
 use Rattle.std.specs.List.{slice_get}
@@ -37,3 +37,8 @@ has_some (Some x) h = (x, refl)
 -- what is read where something stands
 pub read_there : {A : Type 0} (xs : List A) (i : ℕ) (x y : A) → slice_get xs i ≡ Some x → y ≡ get_or xs i y → slice_get xs i ≡ Some y
 read_there xs i x y e f = slice_get_read xs (length xs) i y refl (slice_get_within xs i x e) f
+
+-- one more thing
+pub total_more : (xs : List Allocation) (t : Allocation) → total_cost (xs ++ t ∷ []) ≡ total_cost xs + allocation_cost t
+total_more xs t =
+    ap (sum_by (λ (m : Made). m.cost)) (map-append made_of xs (t ∷ [])) ∙ sum_by_push (λ (m : Made). m.cost) (map made_of xs) (made_of t)

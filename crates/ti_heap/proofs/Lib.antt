@@ -6,5 +6,6 @@ mod Listing
 mod Lists
 mod Makings
 mod Names
+mod Places
 mod Puts
 pub mod Lemmas

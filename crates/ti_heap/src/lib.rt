@@ -10,6 +10,7 @@ mod fields;
 mod heap;
 mod makers;
 mod proc_heap;
+mod region_index;
 mod values;
 
 pub use cells::Cells;

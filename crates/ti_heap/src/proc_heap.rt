@@ -1,9 +1,11 @@
 // What one process made, with its cost.
 
 ghost use Rattle.std.specs.Prelude.{◌≡◌, ◌+◌, ◌<◌, ◌≤◌, nat_lt, [], ◌∷◌, ◌++◌, map, length, slice_get, Some, OnOk, OnErr, IsSomeAnd};
+ghost use Rattle.ti_heap.specs.Places.{inside};
 ghost use Rattle.ti_heap.specs.Things.{values_of, allocation_cost, total_cost, put_in, drop_if_in, changed_at};
 
 use crate::allocation::Allocation;
+use crate::region_index::RegionIndex;
 use std::alloc::Global;
 use std::marker::Model;
 use ti_base::{Memory, Value};
@@ -17,18 +19,36 @@ pub struct ProcHeap {
     things: Vec<Allocation>,
     // The total cost of `things`.
     cost: u64,
+    // The serial numbers of what is in each region.
+    index: RegionIndex,
 }
 
 impl Model for ProcHeap {
     ghost use Rattle.std.specs.Prelude.{List};
     ghost use Rattle.ti_heap.specs.declared.allocation.Allocation.{Allocation};
-    ghost use Rattle.ti_heap.specs.Things.{IsCounted};
+    ghost use Rattle.ti_heap.specs.Places.{IsShare};
 
     ghost Value = { List Allocation };
 
     ghost view = { λ s. s.things.items };
 
-    ghost invariant = { λ s. IsCounted s.cost s.things.items };
+    ghost invariant = { λ s. IsShare s.cost s.index s.things.items };
+}
+
+/// Drops what is in the region, which isn't 0, where the places of all that is in it are given. The result is what it cost.
+fn drop_all(things: &mut [Allocation], region: u32, places: &[u32]) -> u64
+    requires region { 0 < region }
+    requires places { places.now ≡ inside region things.old }
+    requires few { total_cost things.old ≤ 1048576 }
+    ensures things { things.new ≡ map (drop_if_in region) things.old }
+    ensures freed { result + total_cost things.new ≡ total_cost things.old }
+{
+    let mut freed = 0;
+    for place in places {
+        let thing = &mut things[*place as usize];
+        freed += thing.drop_from(region);
+    }
+    freed
 }
 
 impl ProcHeap {
@@ -39,6 +59,7 @@ impl ProcHeap {
         ProcHeap {
             things: Vec::new(alloc),
             cost: 0,
+            index: RegionIndex::new(alloc),
         }
     }
 
@@ -71,14 +92,30 @@ impl ProcHeap {
         &self.things[serial as usize]
     }
 
+    /// The serial numbers of what is in the region, which isn't 0, in the order of making.
+    pub fn places_in(&self, region: u32) -> &[u32]
+        requires { 0 < region }
+        ensures { result.now ≡ inside region self.now }
+    {
+        let _things = &self.things;
+        self.index.of(region)
+    }
+
     /// Adds an object, grid or view. If memory runs out, nothing changes. Its cost must not exceed the limit.
     pub fn push(&mut self, thing: Allocation) -> Result<(), Memory>
-        requires { total_cost self.old + allocation_cost thing ≤ 1048576 }
+        requires room { total_cost self.old + allocation_cost thing ≤ 1048576 }
+        requires serial { length self.old < 4294967296 }
         ensures ok { OnOk result (self.new ≡ self.old ++ thing ∷ []) }
         ensures err { OnErr result (self.new ≡ self.old) }
     {
         let cost = thing.cost();
+        let region = thing.region();
+        let serial = self.things.len() as u32;
         self.things.push(thing)?;
+        if let Err(memory) = self.index.add(region, serial) {
+            self.things.pop();
+            return Err(memory);
+        }
         self.cost += cost;
         Ok(())
     }
@@ -92,14 +129,17 @@ impl ProcHeap {
         thing.put(index, value);
     }
 
-    /// Drops what is in the region, and takes back its cost.
+    /// Drops what is in the region, which isn't 0, and takes back its cost.
     pub fn drop_region(&mut self, region: u32)
+        requires { 0 < region }
         ensures { self.new ≡ map (drop_if_in region) self.old }
     {
-        for i in 0..self.things.len() {
-            let thing = &mut self.things[i];
-            let freed = thing.drop_from(region);
-            self.cost -= freed;
+        match self.index.take(region) {
+            Some(places) => {
+                let freed = drop_all(&mut self.things, region, &places);
+                self.cost -= freed;
+            }
+            None => {}
         }
     }
 }

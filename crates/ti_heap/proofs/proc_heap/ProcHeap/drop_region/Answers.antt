@@ -1,40 +1,49 @@
-use Rattle.std.proofs.Common.{ℕ, ◌<◌, map, length, set, refl, sym, ap, ◌∙◌, arith}
-use Rattle.std.proofs.Math.Numerals.{add-one}
-use Rattle.std.proofs.lemmas.Option.{slice_get_read}
+use Rattle.std.proofs.Common.{◌≡◌, ℕ, ◌+◌, ◌-◌, ◌<◌, eqb, Bool, true, false, if◌then◌else◌, List, [], ◌++◌, map, length, take, drop, append-nil, refl, sym, ap, subst, ⊎_elim, ◌∙◌, arith}
+use Rattle.std.proofs.lemmas.Bool.{cases_eq, eq-eqb, ne_eqb}
+use Rattle.std.proofs.lemmas.List.{drop_all, take_all, length-map}
 use Rattle.ti_heap.specs.declared.allocation.Allocation.{Allocation}
-use Rattle.ti_heap.specs.Things.{drop_if_in, changed_at}
-use Rattle.ti_heap.proofs.Lists.{front_mapped, length_front, front_more, front_all, set_changed}
-use Rattle.ti_heap.proofs.Costs.{cost_set, cost_within}
+use Rattle.ti_heap.specs.declared.region_index.RegionIndex.{RegionIndex}
+use Rattle.ti_heap.specs.Places.{inside, listed, IsIndex, IsShare}
+use Rattle.ti_heap.specs.Things.{drop_if_in, total_cost, IsCounted}
+use Rattle.ti_heap.proofs.Places.{no_place, none_inside, inside_kept}
 use Rattle.ti_heap.proofs.proc_heap.ProcHeap.drop_region.Goals as goal
-use Rattle.ti_heap.proofs.proc_heap.ProcHeap.drop_region.Goals.{After-drop_from-freed}
 
-inside : (c : After-drop_from-freed) → c.loop-i.i < length c.loop-i.self-inside.things.items
-inside c =
-    let e = ap length c.loop-i.invariant.0 ∙ length_front (drop_if_in c.args.region) c.loop-i.i c.self.inside.things.items in
-    omega (arith, e, c.self.inside.things.ok.0)
+-- a list of which all is replaced
+replaced : (xs ys : List Allocation) (n : ℕ) → length ys ≡ length xs → n ≡ length xs → take n (ys ++ drop (length ys) xs) ≡ ys
+replaced xs ys n e f =
+    ap (λ (zs : List Allocation). take n (ys ++ zs)) (drop_all (length ys) xs (omega arith))
+    ∙ ap (take n) (append-nil ys) ∙ take_all n ys (omega arith)
 
-pub overflow_sub-self : goal.overflow_sub-self
-overflow_sub-self c =
-    let w = cost_within c.loop-i.self-inside.things.items c.loop-i.i c.index_mut-thing.result.now (inside (goal.at.overflow_sub-self c).After-drop_from-freed) c.index_mut-thing.ensures.value in
-    omega (arith, w, c.drop_from-freed.ensures.freed, c.loop-i.invariant.1.same)
+module _ (r : ℕ) (pos : 0 < r) (old new : RegionIndex) (xs : List Allocation) (was : IsIndex old xs)
+    (rest : (q : ℕ) → listed new q ≡ (if eqb q r then [] else listed old q)) where
+  dropped_index : IsIndex new (map (drop_if_in r) xs)
+  dropped_index q at = ⊎_elim
+      (λ e. rest q ∙ ap (λ (b : Bool). if b then [] else listed old q) (eq-eqb q r e)
+      ∙ sym (none_inside r pos 0 xs) ∙ ap (λ (k : ℕ). inside k (map (drop_if_in r) xs)) (sym e))
+      (λ e. rest q ∙ ap (λ (b : Bool). if b then [] else listed old q) (ne_eqb q r e) ∙ was q at ∙ sym (inside_kept r q e at xs))
+      (cases_eq q r)
 
-pub loop-i-preserved : goal.loop-i-preserved
-loop-i-preserved c =
-    let f : Allocation → Allocation = drop_if_in c.args.region in
-    let xs = c.loop-i.self-inside.things.items in
-    let t = c.index_mut-thing.result.now in
-    let at = slice_get_read xs (length xs) c.loop-i.i t refl (inside (goal.at.loop-i-preserved c).After-drop_from-freed) c.index_mut-thing.ensures.value in
-    let n = cost_set xs c.loop-i.i t c.drop_from-freed.new.self (inside (goal.at.loop-i-preserved c).After-drop_from-freed) c.index_mut-thing.ensures.value in (
-      ap (λ (y : Allocation). set xs c.loop-i.i y) c.drop_from-freed.ensures.thing ∙ set_changed xs c.loop-i.i f t at
-          ∙ ap (changed_at c.loop-i.i f) c.loop-i.invariant.0 ∙ front_more f c.loop-i.i c.self.inside.things.items
-          ∙ ap (λ (k : ℕ). front_mapped f k c.self.inside.things.items) (sym (add-one c.loop-i.i)),
-      record {
-        same = omega (arith, n, c.drop_from-freed.ensures.freed, c.loop-i.invariant.1.same);
-        most = omega (arith, c.loop-i.invariant.1.most);
-      },
-    )
+dropped_share : (cost freed left : ℕ) (old new : RegionIndex) (r : ℕ) (xs ys : List Allocation) → 0 < r → IsShare cost old xs
+    → ((q : ℕ) → listed new q ≡ (if eqb q r then [] else listed old q))
+    → ys ≡ map (drop_if_in r) xs → freed + total_cost ys ≡ total_cost xs → left ≡ cost - freed → IsShare left new ys
+dropped_share cost freed left old new r xs ys pos was rest is paid less = record {
+  counted = record { same = omega (arith, was.counted.same, paid, less); most = omega (arith, was.counted.most, less) };
+  indexed = subst (IsIndex new) (sym is) (dropped_index r pos old new xs was.indexed rest);
+}
 
-pub returns : goal.returns
-returns c =
-    c.loop-i.invariant.0 ∙ front_all (drop_if_in c.args.region) c.loop-i.i c.self.inside.things.items (omega (arith, c.self.inside.things.ok.0))
-    ∙ ap (map (drop_if_in c.args.region)) c.self.view_is
+pub invariant_of-self : goal.invariant_of-self
+invariant_of-self c =
+    let xs = c.self.inside.things.items in
+    let ys = c.drop_all-freed.new.things in
+    let is : ys ≡ map (drop_if_in c.args.region) xs = c.drop_all-freed.ensures.things ∙ ap (map (drop_if_in c.args.region)) c.deref_mut.ensures.value in
+    let paid : c.drop_all-freed.result + total_cost ys ≡ total_cost xs = c.drop_all-freed.ensures.freed ∙ ap total_cost c.deref_mut.ensures.value in
+    let n : length ys ≡ length xs = ap (λ (zs : List Allocation). length zs) is ∙ length-map xs (drop_if_in c.args.region) in
+    subst (IsShare (c.self.inside.cost - c.drop_all-freed.result) c.take.new.self) (sym (replaced xs ys c.self.inside.things.len n (omega (arith, c.self.inside.things.ok.0))))
+    (dropped_share c.self.inside.cost c.drop_all-freed.result (c.self.inside.cost - c.drop_all-freed.result) c.self.inside.index c.take.new.self c.args.region xs ys c.requires
+    c.self.invariant c.take.ensures.rest is paid refl)
+
+pub returns-in-None : goal.returns-in-None
+returns-in-None c =
+    let xs = c.self.inside.things.items in
+    let none : inside c.args.region xs ≡ [] = sym (c.self.invariant.indexed c.args.region c.requires) ∙ sym (c.in-None.ensures.taken) in
+    sym (no_place c.args.region 0 xs none) ∙ ap (map (drop_if_in c.args.region)) c.self.view_is

@@ -1,9 +1,11 @@
-use Rattle.std.proofs.Common.{◌<◌, List, length, set, refl, ap, ◌∙◌, arith}
+use Rattle.std.proofs.Common.{◌≡◌, ◌<◌, List, length, set, refl, sym, ap, ◌∙◌, arith}
 use Rattle.std.proofs.lemmas.Option.{slice_get_read, slice_get_within}
 use Rattle.std.specs.List.{slice_get}
 use Rattle.ti_heap.specs.declared.allocation.Allocation.{Allocation}
 use Rattle.ti_heap.specs.Contents.{Made}
 use Rattle.ti_heap.specs.Things.{put_in, changed_at, values_of, allocation_cost}
+use Rattle.ti_heap.specs.Places as places
+use Rattle.ti_heap.proofs.Places.{inside_put}
 use Rattle.ti_heap.proofs.Lists.{set_changed}
 use Rattle.ti_heap.proofs.Costs.{cost_set, some_and}
 use Rattle.ti_heap.proofs.Puts.{put_made}
@@ -15,16 +17,25 @@ inside c =
     let s = some_and (slice_get c.args.self.now c.args.serial) (λ (t : Allocation). c.args.index < length (values_of t)) c.requires in
     omega (arith, slice_get_within c.args.self.now c.args.serial s.0 s.1, ap (λ (ts : List Allocation). length ts) c.self.view_is)
 
+-- the write changes the cell of one object or block
+changed : (c : After-put) → set c.self.inside.things.items c.args.serial c.put.new.self
+    ≡ changed_at c.args.serial (put_in c.args.index c.args.value) c.self.inside.things.items
+changed c =
+    let xs = c.self.inside.things.items in
+    let t = c.index_mut-thing.result.now in
+    ap (λ (y : Allocation). set xs c.args.serial y) c.put.ensures
+    ∙ set_changed xs c.args.serial (put_in c.args.index c.args.value) t (slice_get_read xs (length xs) c.args.serial t refl (inside c) c.index_mut-thing.ensures.value)
+
 pub invariant_of-self : goal.invariant_of-self
 invariant_of-self c =
     let n = cost_set c.self.inside.things.items c.args.serial c.index_mut-thing.result.now c.put.new.self (inside (goal.at.invariant_of-self c).After-put) c.index_mut-thing.ensures.value in
     let e = ap (λ (t : Allocation). allocation_cost t) c.put.ensures ∙ ap (λ (m : Made). m.cost) (put_made c.args.index c.args.value c.index_mut-thing.result.now) in
-    record { same = omega (arith, n, e, c.self.invariant.same); most = c.self.invariant.most }
+    record {
+      counted = record { same = omega (arith, n, e, c.self.invariant.counted.same); most = c.self.invariant.counted.most };
+      indexed = λ r pos. c.self.invariant.indexed r pos
+          ∙ sym (ap (places.inside r) (changed (goal.at.invariant_of-self c).After-put)
+          ∙ inside_put r c.args.serial c.args.index c.args.value c.self.inside.things.items);
+    }
 
 pub returns : goal.returns
-returns c =
-    let xs = c.self.inside.things.items in
-    let t = c.index_mut-thing.result.now in
-    ap (λ (y : Allocation). set xs c.args.serial y) c.put.ensures
-    ∙ set_changed xs c.args.serial (put_in c.args.index c.args.value) t (slice_get_read xs (length xs) c.args.serial t refl (inside (goal.at.returns c).After-put) c.index_mut-thing.ensures.value)
-    ∙ ap (changed_at c.args.serial (put_in c.args.index c.args.value)) c.self.view_is
+returns c = changed (goal.at.returns c).After-put ∙ ap (changed_at c.args.serial (put_in c.args.index c.args.value)) c.self.view_is
