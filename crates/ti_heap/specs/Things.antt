@@ -113,10 +113,13 @@ all_values_in region h = flat_map (λ things. flat_map (values_in region) things
 abbrev pub values_at : ℕ → List Allocation → ℕ → List Value
 values_at region things n = option_map_or (values_in region) (slice_get things n) []
 
--- the values that an iteration has yet to yield: of the current thing; of the things at these places, and all of these things, in the current share; of the later shares
-abbrev pub values_left : ℕ → List Value → List ℕ → List Allocation → List Allocation → List (List Allocation) → List Value
+-- the values that an iteration has yet to yield: of the current thing, of the things at the places
+-- that are left of the current share, of what else is left of it, and of the later shares
+abbrev pub values_left : ℕ → List Value → List ℕ → List Allocation → List Allocation
+    → List (List Allocation) → List Value
 values_left region values places things rest shares =
-    values ++ (flat_map (values_at region things) places ++ (flat_map (values_in region) rest ++ all_values_in region shares))
+    values ++ (flat_map (values_at region things) places
+    ++ (flat_map (values_in region) rest ++ all_values_in region shares))
 
 -- ---- invariants
 

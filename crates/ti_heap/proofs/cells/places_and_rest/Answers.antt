@@ -1,4 +1,4 @@
-use Rattle.std.proofs.Common.{ℕ, ◌+◌, List, length, map, append-nil, ap, ◌∙◌, arith}
+use Rattle.std.proofs.Common.{ℕ, List, length, map, append-nil, ap, ◌∙◌, arith}
 use Rattle.std.specs.List.{flat_map}
 use Rattle.std.proofs.lemmas.List.{length-map}
 use Rattle.ti_heap.specs.Things.{allocation_region, values_at}
@@ -13,5 +13,6 @@ returns-clause-few c =
 
 pub returns-clause-values : goal.returns-clause-values
 returns-clause-values c =
-    append-nil (flat_map (values_at c.args.region c.args.share.now) c.places_in.result.now)
-    ∙ ap (flat_map (values_at c.args.region c.args.share.now)) c.places_in.ensures ∙ inside_values c.args.region c.args.share.now
+    let values = values_at c.args.region c.args.share.now in
+    append-nil (flat_map values c.places_in.result.now)
+    ∙ ap (flat_map values) c.places_in.ensures ∙ inside_values c.args.region c.args.share.now

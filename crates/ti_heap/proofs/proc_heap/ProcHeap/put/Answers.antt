@@ -22,20 +22,32 @@ changed : (c : After-put) → set c.self.inside.things.items c.args.serial c.put
     ≡ changed_at c.args.serial (put_in c.args.index c.args.value) c.self.inside.things.items
 changed c =
     let xs = c.self.inside.things.items in
+    let n = c.args.serial in
     let t = c.index_mut-thing.result.now in
-    ap (λ (y : Allocation). set xs c.args.serial y) c.put.ensures
-    ∙ set_changed xs c.args.serial (put_in c.args.index c.args.value) t (slice_get_read xs (length xs) c.args.serial t refl (inside c) c.index_mut-thing.ensures.value)
+    let read = slice_get_read xs (length xs) n t refl (inside c) c.index_mut-thing.ensures.value in
+    ap (λ (y : Allocation). set xs n y) c.put.ensures
+    ∙ set_changed xs n (put_in c.args.index c.args.value) t read
 
 pub invariant_of-self : goal.invariant_of-self
 invariant_of-self c =
-    let n = cost_set c.self.inside.things.items c.args.serial c.index_mut-thing.result.now c.put.new.self (inside (goal.at.invariant_of-self c).After-put) c.index_mut-thing.ensures.value in
-    let e = ap (λ (t : Allocation). allocation_cost t) c.put.ensures ∙ ap (λ (m : Made). m.cost) (put_made c.args.index c.args.value c.index_mut-thing.result.now) in
+    let a = (goal.at.invariant_of-self c).After-put in
+    let xs = c.self.inside.things.items in
+    let i = c.args.index in
+    let t = c.index_mut-thing.result.now in
+    let new = c.put.new.self in
+    let n = cost_set xs c.args.serial t new (inside a) c.index_mut-thing.ensures.value in
+    let made = ap (λ (m : Made). m.cost) (put_made i c.args.value t) in
+    let e = ap (λ (u : Allocation). allocation_cost u) c.put.ensures ∙ made in
     record {
-      counted = record { same = omega (arith, n, e, c.self.invariant.counted.same); most = c.self.invariant.counted.most };
+      counted = record {
+        same = omega (arith, n, e, c.self.invariant.counted.same);
+        most = c.self.invariant.counted.most;
+      };
       indexed = λ r pos. c.self.invariant.indexed r pos
-          ∙ sym (ap (places.inside r) (changed (goal.at.invariant_of-self c).After-put)
-          ∙ inside_put r c.args.serial c.args.index c.args.value c.self.inside.things.items);
+          ∙ sym (ap (places.inside r) (changed a) ∙ inside_put r c.args.serial i c.args.value xs);
     }
 
 pub returns : goal.returns
-returns c = changed (goal.at.returns c).After-put ∙ ap (changed_at c.args.serial (put_in c.args.index c.args.value)) c.self.view_is
+returns c =
+    changed (goal.at.returns c).After-put
+    ∙ ap (changed_at c.args.serial (put_in c.args.index c.args.value)) c.self.view_is
