@@ -1,0 +1,5 @@
+mod Headers
+mod Lines
+mod Names
+mod Scanning
+mod Whole

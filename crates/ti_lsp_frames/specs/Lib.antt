@@ -1,0 +1,3 @@
+pub mod HeaderFields
+pub mod Messages
+pub mod Reading
