@@ -1,0 +1,6 @@
+mod Documents
+mod Edited
+mod Fixes
+mod Items
+mod Offsets
+mod Units

@@ -1,0 +1,10 @@
+pub mod Analysis
+pub mod Diagnostics
+pub mod Edits
+pub mod Handling
+pub mod Messages
+pub mod Positions
+pub mod Responses
+pub mod Sessions
+pub mod Symbols
+pub mod Views

@@ -1,0 +1,12 @@
+-- A session, as contracts see it.
+use Rattle.std.specs.BTreeMap.{get_by_text}
+use Rattle.ti_lsp.specs.declared.session.Session.{Session}
+use Rattle.ti_lsp.specs.Handling.{State, Documents}
+
+-- the phase and the position encoding
+abbrev pub state_of : {A : Type 0} → Session A → State
+state_of s = record { phase = s.phase; encoding = s.encoding }
+
+-- the open documents
+abbrev pub documents_of : {A : Type 0} → Session A → Documents
+documents_of s = get_by_text s.documents

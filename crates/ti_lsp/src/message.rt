@@ -1,0 +1,60 @@
+// Messages of a client, as far as a server needs them.
+
+use crate::edit::Change;
+use crate::{Position, PositionEncoding};
+use serde_json::Value;
+
+/// The kinds of code actions that there are.
+#[derive(Clone, Copy, Debug, PartialEq, Eq)]
+pub enum ActionKind {
+    /// `quickfix`: a fix for a diagnostic, as the user chooses it.
+    QuickFix,
+    /// `source.fixAll`: all fixes that need no choice, as an editor applies them on saving.
+    FixAll,
+}
+
+/// What a request asks for.
+#[derive(Drop)]
+pub enum Request {
+    /// `initialize`, with the position encoding that is chosen from the client's.
+    Initialize(PositionEncoding),
+    /// `shutdown`.
+    Shutdown,
+    /// `textDocument/hover`: the document's URI and the position.
+    Hover(String, Position),
+    /// `textDocument/codeAction`: the document's URI and the kind that is wanted, if it is one that there is.
+    CodeAction(String, Option<ActionKind>),
+    /// `textDocument/documentSymbol`: the document's URI.
+    DocumentSymbol(String),
+    /// One of these with invalid parameters.
+    InvalidParams,
+    /// A method that isn't supported.
+    UnknownMethod,
+}
+
+/// What a notification says.
+#[derive(Drop)]
+pub enum Notification {
+    /// `exit`.
+    Exit,
+    /// `textDocument/didOpen`: the document's URI, version and text.
+    Opened(String, Option<i64>, String),
+    /// `textDocument/didChange`: the document's URI, its new version, and the changes in order.
+    Changed(String, Option<i64>, Vec<Change>),
+    /// `textDocument/didClose`: the document's URI.
+    Closed(String),
+    /// Any other notification, or one of these with invalid parameters. The protocol allows no response, so it is ignored.
+    Other,
+}
+
+/// A message of a client.
+#[derive(Drop)]
+pub enum Message {
+    /// A request with its id.
+    Request(Value, Request),
+    Notification(Notification),
+    /// A response. This server sends no requests, so it is ignored.
+    Response,
+    /// A JSON value that is no message.
+    Invalid,
+}
