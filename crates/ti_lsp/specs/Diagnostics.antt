@@ -49,19 +49,22 @@ abbrev pub diagnostics_of : PositionEncoding → List ℕ → Option Diagnostic 
 diagnostics_of encoding text None = array no_items
 diagnostics_of encoding text (Some d) = array (item (diagnostic_of encoding text d) no_items)
 
-abbrev pub version_data : Option ℤ → Data
-version_data None = null
-version_data (Some n) = number (of_integer n)
+-- the version of a document is sent if it is known
+abbrev pub publication_params : List ℕ → Option ℤ → Data → Data
+publication_params uri None diagnostics = object
+    (member (codes "diagnostics") diagnostics
+    (member (codes "uri") (string uri) no_members))
+publication_params uri (Some version) diagnostics = object
+    (member (codes "diagnostics") diagnostics
+    (member (codes "uri") (string uri)
+    (member (codes "version") (number (of_integer version)) no_members)))
 
 -- the notification that these are the diagnostics of a document
 abbrev pub publication_of : List ℕ → Option ℤ → Data → Data
 publication_of uri version diagnostics = object
     (member (codes "jsonrpc") (string (codes "2.0"))
     (member (codes "method") (string (codes "textDocument/publishDiagnostics"))
-    (member (codes "params") (object
-    (member (codes "diagnostics") diagnostics
-    (member (codes "uri") (string uri)
-    (member (codes "version") (version_data version) no_members)))) no_members)))
+    (member (codes "params") (publication_params uri version diagnostics) no_members)))
 
 -- ---- hover
 

@@ -3,7 +3,7 @@ ghost use Rattle.std.specs.Prelude.{◌≡◌, None, IfOk};
 ghost use Rattle.serde_json.specs.Data.{array, no_items};
 ghost use Rattle.serde_json.specs.View.{view};
 ghost use Rattle.ti_lsp.specs.Diagnostics.{bytes_range, diagnostic_of, diagnostics_of, position_data};
-ghost use Rattle.ti_lsp.specs.Diagnostics.{publication_of, range_data};
+ghost use Rattle.ti_lsp.specs.Diagnostics.{publication_of, publication_params, range_data};
 
 use crate::position::position_at;
 use crate::{Diagnostic, Position, PositionEncoding, Range};
@@ -76,6 +76,23 @@ fn diagnostics_value(
     }
 }
 
+fn publication_params(
+    alloc: Global,
+    uri: &str,
+    version: Option<i64>,
+    diagnostics: Value,
+) -> Result<Value, AllocError>
+    ensures { IfOk result (λ v. view v
+        ≡ publication_params uri.now version (view diagnostics)) }
+{
+    match version {
+        Some(version) => {
+            json!(in alloc; {"uri": uri, "version": version, "diagnostics": diagnostics})
+        }
+        None => json!(in alloc; {"uri": uri, "diagnostics": diagnostics}),
+    }
+}
+
 fn publication(
     alloc: Global,
     uri: &str,
@@ -84,10 +101,11 @@ fn publication(
 ) -> Result<Value, AllocError>
     ensures { IfOk result (λ v. view v ≡ publication_of uri.now version (view diagnostics)) }
 {
+    let params = publication_params(alloc, uri, version, diagnostics)?;
     json!(in alloc; {
         "jsonrpc": "2.0",
         "method": "textDocument/publishDiagnostics",
-        "params": {"uri": uri, "version": version, "diagnostics": diagnostics}
+        "params": params
     })
 }
 
