@@ -1,0 +1,47 @@
+// Errors of programs as diagnostics.
+ghost use Rattle.std.specs.Prelude.{◌≡◌, ◌≤◌, length};
+ghost use Rattle.ti_base.specs.Places.{place_of};
+ghost use Rattle.ti_rules.specs.RefusalOf.{IsRefusal};
+ghost use Rattle.ti_diagnostics.specs.Rejections.{IsDiagnosticOf, StartsAt};
+
+use crate::help::help_of;
+use crate::offset::offset_of;
+use crate::token_end::end_of;
+use ti_lsp::Diagnostic;
+use ti_rules::{Refusal, rule_text};
+
+// The limit on the size of a source, in bytes. A longer one is rejected at its first byte.
+const MOST_BYTES: usize = 1_048_576;
+
+// The offset of an error, or 0 if its position isn't one of the text.
+#[tactic(auto, using(crate::proofs::Positions::starts_there, crate::proofs::Positions::starts_nowhere, crate::proofs::Positions::starts_first))]
+fn start_of(text: &[u8], refusal: Refusal) -> usize
+    requires { IsRefusal text.now refusal }
+    ensures within { result ≤ length text.now }
+    ensures place { StartsAt text.now refusal result }
+{
+    if text.len() > MOST_BYTES {
+        return 0;
+    }
+    match offset_of(text, refusal.place) {
+        Some(start) => start,
+        None => 0,
+    }
+}
+
+/// The diagnostic of an error of a source: from the error's position to the end of the token there.
+///
+/// Requires that it is the error of this source.
+pub fn diagnostic_of(text: &[u8], refusal: Refusal) -> Diagnostic
+    requires { IsRefusal text.now refusal }
+    ensures { IsDiagnosticOf text.now refusal result }
+{
+    let start = start_of(text, refusal);
+    Diagnostic {
+        start,
+        end: end_of(text, start),
+        code: refusal.rule.code(),
+        message: rule_text(refusal.rule),
+        help: help_of(refusal.rule),
+    }
+}
