@@ -16,9 +16,11 @@ mod reports;
 mod run_job;
 mod run_line;
 mod summary;
+mod text_queries;
 mod verifying;
 
 pub use command::{Outcome, titan_top};
 pub use compiling::one_answer;
 pub use inferring::one_marking;
 pub use laws::one_ending;
+pub use text_queries::{marking_of_text, refusal_of_text};
