@@ -1,5 +1,6 @@
 pub mod Bytes
 pub mod Comments
+pub mod ElementLength
 pub mod Fronts
 pub mod Longest
 pub mod Numbers

@@ -1,9 +1,9 @@
 -- What `lex` returns, as its public contract states it.
-use Rattle.std.specs.Prelude.{◌≡◌, ◌⊎◌, ℕ, ◌≤◌, List, length, Result, Ok, Err}
+use Rattle.std.specs.Prelude.{◌≡◌, ◌⊎◌, ℕ, ◌≤◌, ◌<◌, List, length, Result, Ok, Err}
 use Rattle.std.specs.declared.vec.Vec.{Vec}
 use Rattle.std.specs.declared.alloc.Global.{Global}
 use Rattle.ti_syntax.specs.declared.token.Token.{Token}
-use Rattle.ti_syntax.specs.Tokenizing.{IsTokenized}
+use Rattle.ti_syntax.specs.Tokenizing.{IsLongest, IsTokenized, Piece}
 use Rattle.ti_rules.specs.declared.refusal.Refusal.{Refusal}
 use Rattle.ti_rules.specs.LexicalRefusals.{most_bytes, IsLexicalRefusal}
 use Rattle.ti_lex.specs.declared.error.LexErr.{LexErr}
@@ -24,3 +24,9 @@ GivesOnly (Err error) tokens = error ≡ Memory
 abbrev pub RefusesOnly : Result (Vec Token Global) LexErr → Refusal → Type 0
 RefusesOnly (Ok found) refusal = ⊥
 RefusesOnly (Err error) refusal = (error ≡ Refused refusal) ⊎ (error ≡ Memory)
+
+-- a lexical element of this length begins these bytes
+pub record BeginsElement (bytes : List ℕ) (size : ℕ) : Type 0 where
+  pub nonempty : 0 < size
+  pub piece : Piece
+  pub longest : IsLongest bytes size piece

@@ -51,6 +51,14 @@ impl<'a> Cursor<'a> {
         self.place
     }
 
+    /// The offset of the next byte.
+    pub fn offset(&self) -> usize
+        ensures at { result ≡ self.now.at }
+        ensures within { result ≤ length self.now.text }
+    {
+        self.at
+    }
+
     /// The bytes that aren't read yet.
     pub fn unread(&self) -> &'a [u8]
         ensures { result.now ≡ unread_bytes self.now }

@@ -1,10 +1,10 @@
 // The lexer's main loop.
-ghost use Rattle.std.specs.Prelude.{◌≡◌, ◌⊎◌, ◌≤◌, ◌∷◌, ℕ, List, length, drop};
+ghost use Rattle.std.specs.Prelude.{◌≡◌, ◌⊎◌, ◌≤◌, ◌∷◌, ℕ, List, None, Ok, IfOk, IfSome, length, drop};
 ghost use Rattle.ti_syntax.specs.declared.token.Token.{Token};
-ghost use Rattle.ti_syntax.specs.Tokenizing.{IsTokenized};
+ghost use Rattle.ti_syntax.specs.Tokenizing.{BeginsNoPiece, IsTokenized};
 ghost use Rattle.ti_rules.specs.declared.refusal.Refusal.{Refusal};
 ghost use Rattle.ti_rules.specs.LexicalRefusals.{most_bytes, IsLexicalRefusal};
-ghost use Rattle.ti_lex.specs.Answer.{Lexes, GivesOnly, RefusesOnly};
+ghost use Rattle.ti_lex.specs.Answer.{BeginsElement, Lexes, GivesOnly, RefusesOnly};
 ghost use Rattle.ti_lex.specs.Mirrors.Answers.{Scans};
 ghost use Rattle.ti_lex.specs.Mirrors.Cursor.{unread_bytes};
 ghost use Rattle.ti_lex.specs.Mirrors.Reading.{first_lexeme};
@@ -14,7 +14,7 @@ use crate::cursor::Cursor;
 use crate::error::{LexErr, lex_error};
 use crate::input_element::InputElement;
 use std::alloc::Global;
-use ti_base::Place;
+use ti_base::{Memory, Place};
 use ti_rules::Rule;
 use ti_syntax::{Token, TokenKind};
 
@@ -77,6 +77,27 @@ pub fn lex(alloc: Global, text: &[u8]) -> Result<Vec<Token>, LexErr>
         return Err(lex_error(Rule::X5, Place::first()));
     }
     Cursor::new(text).tokens(alloc)
+}
+
+/// The length in bytes of the lexical element at the start of these bytes: of a token, a comment or a whitespace byte. None if no lexical
+/// element begins them, or if they are longer than a source may be. The only error is that memory ran out.
+#[tactic(auto, using(crate::proofs::ElementLength::scanned_some, crate::proofs::ElementLength::scanned_none, crate::proofs::ElementLength::no_bytes))]
+pub fn element_len(alloc: Global, bytes: &[u8]) -> Result<Option<usize>, Memory>
+    ensures some { IfOk result (λ o. IfSome o (BeginsElement bytes.now)) }
+    ensures none { result ≡ Ok None → length bytes.now ≤ most_bytes → BeginsNoPiece bytes.now }
+{
+    if bytes.len() > MOST_BYTES {
+        return Ok(None);
+    }
+    let mut cursor = Cursor::new(bytes);
+    let Some(byte) = cursor.peek() else {
+        return Ok(None);
+    };
+    match cursor.input_element(alloc, byte) {
+        Ok(_) => Ok(Some(cursor.offset())),
+        Err(LexErr::Refused(_)) => Ok(None),
+        Err(LexErr::Memory) => Err(Memory),
+    }
 }
 
 /// Theorem: each source has one token list or one lexical error, and never both.

@@ -13,4 +13,4 @@ mod string;
 mod word;
 
 pub use error::LexErr;
-pub use lexer::{lex, one_reading};
+pub use lexer::{element_len, lex, one_reading};
