@@ -63,7 +63,10 @@ impl Analyzer for Titan {
 
     fn analyze(&self, alloc: Global, text: &str) -> Result<Option<Diagnostic>, AllocError> {
         match refusal_of_text(alloc, text.as_bytes()) {
-            Ok(Some(refusal)) => Ok(Some(diagnostic_of(text.as_bytes(), refusal))),
+            Ok(Some(refusal)) => match diagnostic_of(alloc, text.as_bytes(), refusal) {
+                Ok(diagnostic) => Ok(Some(diagnostic)),
+                Err(Memory) => Err(AllocError),
+            },
             Ok(None) => Ok(None),
             Err(Memory) => Err(AllocError),
         }

@@ -1,5 +1,5 @@
 // Errors of programs as diagnostics.
-ghost use Rattle.std.specs.Prelude.{◌≡◌, ◌≤◌, length};
+ghost use Rattle.std.specs.Prelude.{◌≡◌, ◌≤◌, IfOk, length};
 ghost use Rattle.ti_base.specs.Places.{place_of};
 ghost use Rattle.ti_rules.specs.RefusalOf.{IsRefusal};
 ghost use Rattle.ti_diagnostics.specs.Rejections.{IsDiagnosticOf, StartsAt};
@@ -7,6 +7,8 @@ ghost use Rattle.ti_diagnostics.specs.Rejections.{IsDiagnosticOf, StartsAt};
 use crate::help::help_of;
 use crate::offset::offset_of;
 use crate::token_end::end_of;
+use std::alloc::Global;
+use ti_base::Memory;
 use ti_lsp::Diagnostic;
 use ti_rules::{Refusal, rule_text};
 
@@ -31,17 +33,18 @@ fn start_of(text: &[u8], refusal: Refusal) -> usize
 
 /// The diagnostic of an error of a source: from the error's position to the end of the token there.
 ///
-/// Requires that it is the error of this source.
-pub fn diagnostic_of(text: &[u8], refusal: Refusal) -> Diagnostic
+/// Requires that it is the error of this source. The only error of the call is that memory ran out.
+pub fn diagnostic_of(alloc: Global, text: &[u8], refusal: Refusal) -> Result<Diagnostic, Memory>
     requires { IsRefusal text.now refusal }
-    ensures { IsDiagnosticOf text.now refusal result }
+    ensures { IfOk result (IsDiagnosticOf text.now refusal) }
 {
     let start = start_of(text, refusal);
-    Diagnostic {
+    let end = end_of(alloc, text, start)?;
+    Ok(Diagnostic {
         start,
-        end: end_of(text, start),
+        end,
         code: refusal.rule.code(),
         message: rule_text(refusal.rule),
         help: help_of(refusal.rule),
-    }
+    })
 }

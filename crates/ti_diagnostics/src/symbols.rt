@@ -66,7 +66,7 @@ fn symbol_at(
     if start >= text.len() {
         return Ok(None);
     }
-    let end = end_of(text, start);
+    let end = end_of(alloc, text, start)?;
     let Ok(name) = String::from_utf8(text[start..end].to_vec(alloc)?) else {
         return Ok(None);
     };
