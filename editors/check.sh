@@ -25,20 +25,20 @@ for file in vscode/*.json vscode/syntaxes/*.json; do
   python3 -m json.tool "$file" > /dev/null || { echo "$file: no JSON"; status=1; }
 done
 
+log=$(mktemp)
 # runs a test of the language server or of a client, if its program is installed
 serve() {
   name=$1
   shift
   if ! command -v "$1" > /dev/null; then
     echo "$name: $1 isn't installed"
-  elif "$@" < /dev/null > /tmp/titan_lsp_test.$$ 2>&1; then
+  elif "$@" < /dev/null > "$log" 2>&1; then
     echo "$name: passed"
   else
-    cat /tmp/titan_lsp_test.$$
+    cat "$log"
     echo "$name: failed"
     status=1
   fi
-  rm -f /tmp/titan_lsp_test.$$
 }
 
 TITAN_LSP=$PWD/../crates/titan_lsp/out/titan_lsp
@@ -51,4 +51,5 @@ if [ -x "$TITAN_LSP" ]; then
 else
   echo "titan_lsp: not built"
 fi
+rm -f "$log"
 exit $status

@@ -12,7 +12,7 @@ local function say(text) io.stdout:write(text .. '\n') end
 local function fail(text) say('FAILED ' .. text); vim.cmd('cquit 1') end
 vim.cmd('edit ' .. path)
 local buffer = vim.api.nvim_get_current_buf()
-local id = vim.lsp.start_client({ name = 'titan_lsp', cmd = { program }, root_dir = '/tmp' })
+local id = vim.lsp.start_client({ name = 'titan_lsp', cmd = { program }, root_dir = vim.fn.getcwd() })
 if not id then fail('no client') end
 vim.lsp.buf_attach_client(buffer, id)
 local function diagnostics() return vim.diagnostic.get(buffer) end
