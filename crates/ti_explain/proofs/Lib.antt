@@ -1,0 +1,4 @@
+pub mod Explained
+pub mod FoundLaws
+pub mod MethodLaws
+pub mod PlainLaws

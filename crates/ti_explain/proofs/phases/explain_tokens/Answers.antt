@@ -1,0 +1,21 @@
+use Rattle.std.proofs.Common.{List, Ok, Err, inl, subst}
+use Rattle.ti_syntax.specs.declared.token.Token.{Token}
+use Rattle.ti_syntax.specs.Trees.Text.{tree_of}
+use Rattle.ti_parse.specs.Answer.{Parsed}
+use Rattle.ti_parse_expr.specs.declared.error.ParseErr.{ParseErr}
+use Rattle.ti_parse_expr.specs.declared.error.ParseErr.TheVariants.{Refused}
+use Rattle.ti_explain.specs.Explanations.{AreTokenReasons}
+use Rattle.ti_explain.proofs.Explained.{alone, tree_then, misfit_then}
+use Rattle.ti_explain.proofs.phases.explain_tokens.Goals as goal
+
+pub returns-in-Ok : goal.returns-in-Ok
+returns-in-Ok c =
+    let parsed = subst (λ (tokens : List Token). Parsed tokens (Ok c.in-Ok.tree)) c.deref.ensures.value c.in-Ok.ensures.answer in
+    tree_then c.args.tokens.items (tree_of c.in-Ok.tree) c.explain_tree.result (record { spells = parsed.0; shallow = parsed.1 }) c.explain_tree.ensures
+
+pub returns-in-Err-Refused : goal.returns-in-Err-Refused
+returns-in-Err-Refused c =
+    inl (alone (AreTokenReasons c.args.tokens.items) c.in-Err-Refused.refusal c.unexplained.result c.unexplained.ensures.refusal c.unexplained.ensures.reasons
+    (misfit_then c.args.tokens.items c.in-Err-Refused.refusal
+    (subst (λ (tokens : List Token). Parsed tokens (Err (Refused c.in-Err-Refused.refusal))) c.deref.ensures.value
+    (subst (λ (e : ParseErr). Parsed c.deref.result.now (Err e)) c.in-Err-Refused.field-0-is c.in-Err-Refused.ensures.answer))))

@@ -1,0 +1,50 @@
+-- What an explanation of a text is: its refusal, with the reasons for it. Each phase that refuses says which reasons there are; so far,
+-- there are reasons for the rules of single values, and none for the others.
+use Rattle.std.specs.Prelude.{◌≡◌, ℕ, List, [], Contains, Option, Some, None, Result, Ok, Err}
+use Rattle.ti_base.specs.declared.memory.Memory.{Memory}
+use Rattle.ti_syntax.specs.declared.token.Token.{Token}
+use Rattle.ti_syntax.specs.Trees.Classes.{TextTree}
+use Rattle.ti_syntax.specs.Spelling.{Misfit, IsGrammarRefusal}
+use Rattle.ti_lang.specs.Program.Classes.{ProgramView}
+use Rattle.ti_lang.specs.Numbering.{Numbers}
+use Rattle.ti_rules.specs.declared.refusal.Refusal.{Refusal}
+use Rattle.ti_rules.specs.LexicalRefusals.{IsLexicalRefusal}
+use Rattle.ti_rules.specs.BrokenNames.{BreaksNames}
+use Rattle.ti_rules.specs.Refusals.{IsFirstRefusal}
+use Rattle.ti_rules.specs.TypeRules.{type_refusals}
+use Rattle.ti_rules.specs.SingleRules.{single_refusals}
+use Rattle.ti_rules.specs.RefusalOf.{HasNone, HasTokens, HasTree, rule_of_misfit, IsRefusal}
+use Rattle.ti_explain.specs.declared.reason.Reason.{Reason}
+use Rattle.ti_explain.specs.declared.reason.Explanation.{Explanation}
+use Rattle.ti_explain.specs.SingleReasons.{AreSingleReasons}
+
+-- the reasons for the first refusal of a program by the rules of types and qualifiers, or else by those of single values
+pub data AreProgramReasons (p : ProgramView) (refusal : Refusal) : List Reason → Type 0 where
+  of_types : IsFirstRefusal (Contains (type_refusals p)) refusal → AreProgramReasons p refusal []
+  of_single : {reasons : List Reason} → type_refusals p ≡ [] → IsFirstRefusal (Contains (single_refusals p)) refusal
+      → AreSingleReasons p refusal reasons → AreProgramReasons p refusal reasons
+
+-- the reasons for the refusal of a tree by the rules of names, or else of its program
+pub data AreTreeReasons (tree : TextTree) (refusal : Refusal) : List Reason → Type 0 where
+  of_names : IsFirstRefusal (BreaksNames tree) refusal → AreTreeReasons tree refusal []
+  of_program : {program : ProgramView} {reasons : List Reason} → HasNone (BreaksNames tree) → Numbers tree program
+      → AreProgramReasons program refusal reasons → AreTreeReasons tree refusal reasons
+
+-- the reasons for the refusal of a list of tokens that doesn't fit the grammar
+pub data AreTokenReasons (tokens : List Token) (refusal : Refusal) : List Reason → Type 0 where
+  of_misfit : {misfit : Misfit} → refusal.rule ≡ rule_of_misfit misfit → IsGrammarRefusal tokens (Some (misfit, refusal.place))
+      → AreTokenReasons tokens refusal []
+
+-- the reasons for the refusal of a text
+pub data AreReasons (text : List ℕ) (refusal : Refusal) : List Reason → Type 0 where
+  of_bytes : IsLexicalRefusal text refusal → AreReasons text refusal []
+  of_tokens : {tokens : List Token} {reasons : List Reason} → HasTokens text tokens → AreTokenReasons tokens refusal reasons
+      → AreReasons text refusal reasons
+  of_tree : {tree : TextTree} {reasons : List Reason} → HasTree text tree → AreTreeReasons tree refusal reasons
+      → AreReasons text refusal reasons
+
+-- None if the text has no refusal, else its refusal with the reasons for it; out of memory is always possible
+abbrev pub Explains : List ℕ → Result (Option Explanation) Memory → Type 0
+Explains text (Ok None) = HasNone (IsRefusal text)
+Explains text (Ok (Some e)) = IsRefusal text e.refusal × AreReasons text e.refusal e.reasons.items
+Explains text (Err memory) = Unit {0}

@@ -1,0 +1,5 @@
+pub mod Explanations
+pub mod FirstEffects
+pub mod Mirrors
+pub mod PlainParts
+pub mod SingleReasons

@@ -1,0 +1,13 @@
+//! Explanations: why a text is refused, as positions in it with what is there.
+#![tactic(auto)]
+
+mod effects;
+mod methods;
+mod phases;
+mod plain;
+mod reason;
+mod search;
+mod statement;
+
+pub use phases::explain;
+pub use reason::{EffectAt, Explanation, GlobalEffect, PlainCause, PlainPart, Reason, ReasonKind};

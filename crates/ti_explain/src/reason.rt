@@ -1,0 +1,99 @@
+// Explanations of a refusal, as data: where to look and what is there.
+
+use ti_base::Place;
+use ti_rules::Refusal;
+
+/// Why a part of an expression is plain, that is, may differ between processes.
+#[derive(Clone, Copy, Debug, PartialEq, Eq)]
+pub enum PlainCause {
+    /// A variable that is declared without `single`.
+    Variable,
+    /// The variable of a `foreach` over a plain domain.
+    ForeachVariable,
+    /// A field.
+    Field,
+    /// An element of a grid.
+    Element,
+    /// `Ti.thisProc()`
+    ThisProc,
+    /// `this`
+    This,
+    /// `null`
+    Null,
+    /// A call of a method inside an expression.
+    InnerCall,
+    /// A built-in member other than `size`, `min`, `max` and `contains`.
+    Member,
+    /// A cast to a local reference.
+    LocalCast,
+    /// A whole right-hand side that calls a method without a single result.
+    PlainResult,
+    /// A new object.
+    NewObject,
+    /// A new grid.
+    NewGrid,
+    /// A broadcast of a value that isn't a number, a boolean, a point or a rectangular domain.
+    SentReference,
+}
+
+/// A part of an expression that is plain by itself, whatever its own parts are: its position, and why.
+#[derive(Clone, Copy, Debug, PartialEq, Eq)]
+pub struct PlainPart {
+    pub place: Place,
+    pub cause: PlainCause,
+}
+
+/// What a statement does that all processes have to do together.
+#[derive(Clone, Copy, Debug, PartialEq, Eq)]
+pub enum GlobalEffect {
+    /// A barrier.
+    Barrier,
+    /// A broadcast.
+    Broadcast,
+    /// A new region.
+    NewRegion,
+    /// An exchange, or the deletion of a region.
+    Collective,
+    /// A call of a method that is declared single.
+    SingleCall,
+    /// The declaration of a single variable.
+    DeclaresSingle,
+    /// A change of a single variable.
+    ChangesSingle,
+    /// A `return` from a method with a single result or with global effects.
+    Return,
+    /// A `break` or `continue` of a loop with global effects.
+    Jump,
+}
+
+/// A statement with a global effect of its own: the position that reports use for it, and the effect.
+#[derive(Clone, Copy, Debug, PartialEq, Eq)]
+pub struct EffectAt {
+    pub place: Place,
+    pub effect: GlobalEffect,
+}
+
+/// What a reason says of its position.
+#[derive(Clone, Copy, Debug, PartialEq, Eq)]
+pub enum ReasonKind {
+    /// This part of a value, a condition or a domain that has to be single is plain.
+    Plain(PlainCause),
+    /// This statement has a global effect.
+    Effect(GlobalEffect),
+    /// The method of this name isn't declared single.
+    PlainMethod,
+}
+
+/// A reason for a refusal: a position in the text, and what is there.
+#[derive(Clone, Copy, Debug, PartialEq, Eq)]
+pub struct Reason {
+    pub place: Place,
+    pub kind: ReasonKind,
+}
+
+/// The refusal of a text, with its reasons. Where reasons are found for a rule, the first is the part that has to be changed.
+#[derive(Drop)]
+pub struct Explanation {
+    pub refusal: Refusal,
+    pub reasons: Vec<Reason>,
+}
