@@ -1,4 +1,5 @@
 pub mod Explained
 pub mod FoundLaws
 pub mod MethodLaws
+pub mod NamedLaws
 pub mod PlainLaws

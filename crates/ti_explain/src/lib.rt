@@ -2,6 +2,7 @@
 #![tactic(auto)]
 
 mod effects;
+mod laws;
 mod methods;
 mod phases;
 mod plain;
@@ -9,5 +10,6 @@ mod reason;
 mod search;
 mod statement;
 
+pub use laws::{effects_are_named, plain_parts_are_named};
 pub use phases::explain;
 pub use reason::{EffectAt, Explanation, GlobalEffect, PlainCause, PlainPart, Reason, ReasonKind};

@@ -1,0 +1,226 @@
+// The report of an explanation: the refusal, the lines of the text that matter with marks below them, and help.
+
+use crate::source::{Window, line_of, shown, token_at, token_len, width_of, window_around};
+use crate::wording::{help, primary_label, reason_label};
+use std::alloc::{AllocError, AllocFailed, Global};
+use ti_base::Place;
+use ti_explain::{Explanation, Reason};
+use ti_rules::{Refusal, rule_text};
+
+// The largest number of marks that are shown.
+const MOST_MARKS: usize = 6;
+
+/// Want of memory.
+#[derive(Clone, Copy)]
+pub(crate) struct NoMemory;
+
+impl From<AllocError> for NoMemory {
+    fn from(_: AllocError) -> NoMemory {
+        NoMemory
+    }
+}
+
+impl<T: Drop> From<AllocFailed<T>> for NoMemory {
+    fn from(_: AllocFailed<T>) -> NoMemory {
+        NoMemory
+    }
+}
+
+// A mark below a line: the position of its first byte, what it is drawn with, and what it says.
+#[derive(Drop)]
+struct Mark {
+    place: Place,
+    drawn: char,
+    label: String,
+}
+
+fn own_mark(alloc: Global, refusal: Refusal) -> Result<Mark, NoMemory> {
+    let mut label = String::new(alloc);
+    label.push_str(primary_label(refusal.rule))?;
+    Ok(Mark {
+        place: refusal.place,
+        drawn: '^',
+        label,
+    })
+}
+
+fn reason_mark(alloc: Global, text: &[u8], reason: &Reason) -> Result<Mark, NoMemory> {
+    let token = shown(alloc, token_at(text, reason.place))?;
+    Ok(Mark {
+        place: reason.place,
+        drawn: '-',
+        label: reason_label(alloc, reason.kind, token.as_str())?,
+    })
+}
+
+// The marks of an explanation, in the order of the text.
+fn marks_of(alloc: Global, text: &[u8], explanation: &Explanation) -> Result<Vec<Mark>, NoMemory> {
+    let mut marks = Vec::new(alloc);
+    marks.push(own_mark(alloc, explanation.refusal)?)?;
+    for reason in &explanation.reasons {
+        if marks.len() < MOST_MARKS {
+            marks.push(reason_mark(alloc, text, reason)?)?;
+        }
+    }
+    marks.sort_by_key(|mark: &Mark| (mark.place.line, mark.place.col))?;
+    Ok(marks)
+}
+
+fn push_times(out: &mut String, c: char, count: usize) -> Result<(), AllocError> {
+    for _ in 0..count {
+        out.push(c)?;
+    }
+    Ok(())
+}
+
+// The number of decimal digits.
+fn digits(number: u32) -> usize {
+    let mut rest = number;
+    let mut count = 1usize;
+    for _ in 0..10 {
+        rest /= 10;
+        if rest > 0 {
+            count = count.saturating_add(1);
+        }
+    }
+    count
+}
+
+// The margin: as many columns as the largest line number has digits.
+#[derive(Clone, Copy)]
+struct Margin {
+    width: usize,
+}
+
+impl Margin {
+    fn of(marks: &[Mark]) -> Margin {
+        let mut width = 1;
+        for mark in marks {
+            width = width.max(digits(mark.place.line));
+        }
+        Margin { width }
+    }
+
+    // The margin without a number.
+    fn push_blank(self, out: &mut String) -> Result<(), AllocError> {
+        push_times(out, ' ', self.width)?;
+        out.push_str(" |")
+    }
+
+    // The margin with the number of a line.
+    fn push_number(self, alloc: Global, out: &mut String, line: u32) -> Result<(), AllocError> {
+        let number = format!(in alloc; "{line}")?;
+        out.push_str(number.as_str())?;
+        push_times(out, ' ', self.width.saturating_sub(number.len()))?;
+        out.push_str(" |")
+    }
+}
+
+// Appends the part of a line that is shown.
+fn push_line(
+    alloc: Global,
+    out: &mut String,
+    margin: Margin,
+    line: u32,
+    part: Window<'_>,
+) -> Result<(), AllocError> {
+    margin.push_number(alloc, out, line)?;
+    out.push(' ')?;
+    if !part.before.is_empty() {
+        out.push_str("...")?;
+    }
+    out.push_str(shown(alloc, part.part)?.as_str())?;
+    if part.is_cut {
+        out.push_str("...")?;
+    }
+    out.push('\n')
+}
+
+// Appends a mark below the part of its line that is shown, with its label.
+fn push_mark(
+    alloc: Global,
+    out: &mut String,
+    margin: Margin,
+    part: Window<'_>,
+    mark: &Mark,
+) -> Result<(), AllocError> {
+    let at = (mark.place.col.saturating_sub(1) as usize).saturating_sub(part.before.len());
+    let front = part.part.get(..at).unwrap_or(part.part);
+    let rest = part.part.get(at..).unwrap_or(&[]);
+    let token = rest.get(..token_len(rest)).unwrap_or(rest);
+    let lead = if part.before.is_empty() { 1 } else { 4 };
+    margin.push_blank(out)?;
+    push_times(out, ' ', width_of(alloc, front)?.saturating_add(lead))?;
+    push_times(out, mark.drawn, width_of(alloc, token)?.max(1))?;
+    if !mark.label.is_empty() {
+        out.push(' ')?;
+        out.push_str(mark.label.as_str())?;
+    }
+    out.push('\n')
+}
+
+// Appends the excerpts: each line once, with its marks below it; a line that is cut, once for each mark.
+fn push_excerpts(
+    alloc: Global,
+    out: &mut String,
+    text: &[u8],
+    margin: Margin,
+    marks: &[Mark],
+) -> Result<(), AllocError> {
+    let mut last = 0;
+    for mark in marks {
+        let line = mark.place.line;
+        let part = window_around(line_of(text, line), mark.place.col);
+        if line != last || part.is_cut || !part.before.is_empty() {
+            push_line(alloc, out, margin, line, part)?;
+        }
+        push_mark(alloc, out, margin, part, mark)?;
+        last = line;
+    }
+    Ok(())
+}
+
+// Appends the help of the explanation, if there is any.
+fn push_help(
+    out: &mut String,
+    margin: Margin,
+    explanation: &Explanation,
+) -> Result<(), AllocError> {
+    let help = help(explanation);
+    if help.is_empty() {
+        return Ok(());
+    }
+    margin.push_blank(out)?;
+    out.push('\n')?;
+    push_times(out, ' ', margin.width)?;
+    out.push_str(" = help: ")?;
+    out.push_str(help)?;
+    out.push('\n')
+}
+
+/// The report of an explanation of this text, which is the content of the file of this name. Each line ends with a line feed.
+pub(crate) fn report(
+    alloc: Global,
+    name: &str,
+    text: &[u8],
+    explanation: &Explanation,
+) -> Result<String, NoMemory> {
+    let Refusal { rule, place } = explanation.refusal;
+    let marks = marks_of(alloc, text, explanation)?;
+    let margin = Margin::of(&marks);
+    let mut out = String::new(alloc);
+    out.push_str("error[")?;
+    out.push_str(rule.code())?;
+    out.push_str("]: ")?;
+    out.push_str(rule_text(rule))?;
+    out.push('\n')?;
+    push_times(&mut out, ' ', margin.width)?;
+    let (line, col) = (place.line, place.col);
+    let place = format!(in alloc; "--> {name}:{line}:{col}\n")?;
+    out.push_str(place.as_str())?;
+    margin.push_blank(&mut out)?;
+    out.push('\n')?;
+    push_excerpts(alloc, &mut out, text, margin, &marks)?;
+    push_help(&mut out, margin, explanation)?;
+    Ok(out)
+}

@@ -1,0 +1,124 @@
+//! `titan_explain`: says why programs are refused, with excerpts of their texts. It is a program of its own beside `titan`, whose words and
+//! outputs stay as they are.
+//!
+//! `titan_explain FILE..` writes the reports of the files in their order to standard output, so that they can be paged. The status is 0 if
+//! all texts are accepted (nothing is written about those), 1 if one is refused, 3 for no file, 4 if a file can't be read, 5 if standard
+//! output can't be written, and 6 if memory runs out; with 3 to 6 it ends there.
+#![tactic(auto)]
+
+mod excerpt;
+mod source;
+mod wording;
+
+use excerpt::report;
+use std::alloc::Global;
+use std::io::{self, ErrorKind};
+use std::process::ExitCode;
+use std::{env, fs};
+use ti_explain::explain;
+
+const USAGE: &str = "usage: titan_explain FILE..";
+
+/// Why there is no report.
+#[derive(Clone, Copy)]
+enum Stop {
+    Arguments,
+    Unreadable,
+    Unwritable,
+    Memory,
+}
+
+impl Stop {
+    fn status(self) -> u8 {
+        match self {
+            Stop::Arguments => 3,
+            Stop::Unreadable => 4,
+            Stop::Unwritable => 5,
+            Stop::Memory => 6,
+        }
+    }
+}
+
+// The arguments: at least one, all of which are Unicode.
+fn file_names(rt: &HostRuntime) -> Result<Vec<String>, Stop> {
+    let args = match env::args(rt) {
+        Ok(args) => args,
+        Err(e) if e.kind() == ErrorKind::InvalidData => return Err(Stop::Arguments),
+        Err(_) => return Err(Stop::Memory),
+    };
+    let mut names = Vec::new(rt.alloc());
+    for word in args.skip(1) {
+        if names.push(word).is_err() {
+            return Err(Stop::Memory);
+        }
+    }
+    if names.is_empty() {
+        Err(Stop::Arguments)
+    } else {
+        Ok(names)
+    }
+}
+
+fn read(rt: &HostRuntime, name: &str) -> Result<Vec<u8>, Stop> {
+    match fs::read(rt, name) {
+        Ok(text) => Ok(text),
+        Err(e) if e.kind() == ErrorKind::OutOfMemory => Err(Stop::Memory),
+        Err(_) => Err(Stop::Unreadable),
+    }
+}
+
+// The report of a text; None if it is accepted.
+fn explained(alloc: Global, name: &str, text: &[u8]) -> Result<Option<String>, Stop> {
+    match explain(alloc, text) {
+        Ok(None) => Ok(None),
+        Ok(Some(explanation)) => match report(alloc, name, text, &explanation) {
+            Ok(report) => Ok(Some(report)),
+            Err(_) => Err(Stop::Memory),
+        },
+        Err(_) => Err(Stop::Memory),
+    }
+}
+
+// Writes the report of a file, if its text is refused, with this text before it. Returns whether it is.
+fn run(rt: &HostRuntime, name: &str, before: &str) -> Result<bool, Stop> {
+    let text = read(rt, name)?;
+    match explained(rt.alloc(), name, &text)? {
+        Some(report) => match print!(rt; "{before}{report}") {
+            Ok(()) => Ok(true),
+            Err(_) => Err(Stop::Unwritable),
+        },
+        None => Ok(false),
+    }
+}
+
+fn run_all(rt: &HostRuntime) -> Result<u8, Stop> {
+    let names = file_names(rt)?;
+    let mut status = 0;
+    let mut before = "";
+    for name in &names {
+        if run(rt, name.as_str(), before)? {
+            status = 1;
+            before = "\n";
+        }
+    }
+    Ok(status)
+}
+
+fn finish(rt: &HostRuntime) -> io::Result<u8> {
+    match run_all(rt) {
+        Ok(status) => Ok(status),
+        Err(stop) => {
+            if let Stop::Arguments = stop {
+                eprintln!(rt; "{USAGE}")?;
+            }
+            Ok(stop.status())
+        }
+    }
+}
+
+fn main(rt: HostRuntime) -> ExitCode {
+    match finish(&rt) {
+        Ok(status) => ExitCode::from(status),
+        Err(_) => ExitCode::from(5),
+    }
+}

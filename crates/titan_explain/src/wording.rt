@@ -1,0 +1,178 @@
+// What is said: a label for the position of each rule, one for each kind of reason, and a line of help.
+
+use std::alloc::{AllocError, Global};
+use ti_explain::{Explanation, GlobalEffect, PlainCause, ReasonKind};
+use ti_rules::Rule;
+
+/// The label of the position where a rule is broken.
+pub(crate) fn primary_label(rule: Rule) -> &'static str {
+    match rule {
+        Rule::X1 => "this byte begins no token, or can't stand in a string",
+        Rule::X2 => "this comment has no `*/`",
+        Rule::X3 => "this string has no closing quote on its line",
+        Rule::X4 => "this number is too large, or begins with a 0",
+        Rule::X5 => "a source has at most 1048576 bytes",
+        Rule::G1 => "the tokens up to this one begin no program",
+        Rule::G2 =>
+            "more than 64 levels of statements, or more than 256 operators in an expression",
+        Rule::N1 => "nothing of this name can be used here",
+        Rule::N2 => "this name is declared before",
+        Rule::N3 => "this is not the form of `main`",
+        Rule::N4 => "at most 200 variables can be in scope",
+        Rule::Y1 => "the types of the operands don't fit, or there is no such member",
+        Rule::Y2 => "the type of the value isn't the one that is wanted",
+        Rule::Y3 => "the condition isn't boolean",
+        Rule::Y4 => "the numbers of arguments and of parameters differ",
+        Rule::Y5 => "with other numbers of dimensions this would be accepted",
+        Rule::Y6 => "a value is missing, or this call can't be part of an expression",
+        Rule::Y7 => "this word can't stand here",
+        Rule::Y8 => "there is no loop around this",
+        Rule::Q1 => "this reference is global, and a local one is wanted",
+        Rule::Q2 => "a part of local type is written through a global reference",
+        Rule::Q3 => "an exchange into elements of local type",
+        Rule::S1 => "all processes must take the same way here",
+        Rule::S2 => "all processes must execute this loop equally often",
+        Rule::S3 => "all processes must execute this loop for the same points",
+        Rule::S4 => "what is stored here must be the same in all processes",
+        Rule::S5 => "this argument must be the same in all processes",
+        Rule::S6 => "this method has global effects, and isn't declared single",
+        Rule::S7 => "what is returned here must be the same in all processes",
+        Rule::S8 => "the root or the region must be the same in all processes",
+        Rule::S9 => "only a method that is declared single can have a single result",
+        Rule::B1 => "no annotations let all processes reach this collective together",
+    }
+}
+
+// What a plain part is, by its cause; `token` is the token at its position.
+fn push_cause(label: &mut String, cause: PlainCause, token: &str) -> Result<(), AllocError> {
+    label.push('`')?;
+    label.push_str(token)?;
+    label.push_str(match cause {
+        PlainCause::Variable => "` may differ between processes: it is declared without `single`",
+        PlainCause::ForeachVariable => {
+            "` may differ between processes: the domain of its loop isn't single"
+        }
+        PlainCause::Field => "` is a field, and may differ between processes",
+        PlainCause::Element => "` reads an element of a grid, which may differ between processes",
+        PlainCause::ThisProc => ".thisProc()` differs between processes",
+        PlainCause::This => "` may be another object in each process",
+        PlainCause::Null => "` isn't single: no reference is, apart from variables declared so",
+        PlainCause::InnerCall => "` is called inside an expression, where no call is single",
+        PlainCause::Member => "` gives what may differ between processes",
+        PlainCause::LocalCast => "` begins a cast to a local reference, which isn't single",
+        PlainCause::PlainResult => "` has no single result",
+        PlainCause::NewObject => "` makes an object of its own in each process",
+        PlainCause::NewGrid => "` makes a grid of its own in each process",
+        PlainCause::SentReference => {
+            "` gives a single value for numbers, booleans, points and rectangular domains alone"
+        }
+    })
+}
+
+// What the effect of a statement is; `token` is the token at its position.
+fn push_effect(label: &mut String, effect: GlobalEffect, token: &str) -> Result<(), AllocError> {
+    label.push_str("... because of `")?;
+    label.push_str(token)?;
+    label.push_str(match effect {
+        GlobalEffect::Barrier => "`, at which all processes meet",
+        GlobalEffect::Broadcast => "`, in which all processes take part",
+        GlobalEffect::NewRegion => "`: all processes make a region together",
+        GlobalEffect::Collective => "`, in which all processes take part",
+        GlobalEffect::SingleCall => "`, a method that is declared single",
+        GlobalEffect::DeclaresSingle => "`, a single variable that is declared here",
+        GlobalEffect::ChangesSingle => "`, which changes a single variable",
+        GlobalEffect::Return => "`, which leaves a method with global effects or a single result",
+        GlobalEffect::Jump => "`, which leaves or continues a loop with global effects",
+    })
+}
+
+/// The label of a reason of this kind; `token` is the token at its position.
+pub(crate) fn reason_label(
+    alloc: Global,
+    kind: ReasonKind,
+    token: &str,
+) -> Result<String, AllocError> {
+    let mut label = String::new(alloc);
+    match kind {
+        ReasonKind::Plain(cause) => push_cause(&mut label, cause, token)?,
+        ReasonKind::Effect(effect) => push_effect(&mut label, effect, token)?,
+        ReasonKind::PlainMethod => {
+            label.push('`')?;
+            label.push_str(token)?;
+            label.push_str("` isn't declared single")?;
+        }
+    }
+    Ok(label)
+}
+
+// The help for a plain part.
+fn cause_help(cause: PlainCause) -> &'static str {
+    match cause {
+        PlainCause::Variable => {
+            "declare the variable `single` if what it gets is the same in all processes; \
+             a broadcast makes it so"
+        }
+        PlainCause::ForeachVariable => "let the loop go over a domain that is single",
+        PlainCause::ThisProc => "a broadcast from one process gives all of them the same number",
+        PlainCause::PlainResult => {
+            "declare the method and its result `single`, or broadcast what it gives"
+        }
+        PlainCause::NewObject | PlainCause::NewGrid | PlainCause::Null | PlainCause::This => {
+            "leave `single` out: each process may have a reference of its own"
+        }
+        PlainCause::SentReference | PlainCause::LocalCast => {
+            "leave `single` out of the declaration"
+        }
+        PlainCause::Field | PlainCause::Element | PlainCause::InnerCall | PlainCause::Member => {
+            "broadcast the value from one process into a variable that is declared `single`"
+        }
+    }
+}
+
+// The help for a rule.
+fn rule_help(rule: Rule) -> &'static str {
+    match rule {
+        Rule::X1 =>
+            "outside of comments a source has letters, digits and the signs of the language",
+        Rule::X2 => "end the comment with `*/`",
+        Rule::X3 => "end the string with `\"` on the same line",
+        Rule::X4 => "an `int` is at most 2147483647; larger numbers are written with `L`",
+        Rule::X5 => "",
+        Rule::G1 => "",
+        Rule::G2 => "store parts in variables, or move statements to a method",
+        Rule::N1 =>
+            "declare the name before its use; an instance method needs an object before a dot",
+        Rule::N2 => "choose another name",
+        Rule::N3 => {
+            "write `public static single void main(String[] args) { .. }` in `class Main`"
+        }
+        Rule::N4 => "move statements to a method",
+        Rule::Y1 => "",
+        Rule::Y2 => "",
+        Rule::Y3 => "compare numbers with `==`, `<` and so on; there is no value 0 for `false`",
+        Rule::Y4 => "give one argument for each parameter",
+        Rule::Y5 => "a grid or domain and its points have one number of dimensions",
+        Rule::Y6 => {
+            "store what the call gives in a variable first; a method with a result ends with `return`"
+        }
+        Rule::Y7 => "leave the word out",
+        Rule::Y8 => "leave a method with `return`",
+        Rule::Q1 => "cast it by `(T local) e` if it refers to memory of this process",
+        Rule::Q2 => "write it through a local reference",
+        Rule::Q3 => "declare the elements without `local`",
+        Rule::S6 => "declare the method `single`: then all processes must call it together",
+        Rule::S9 => "declare the method `single` too",
+        Rule::S1 | Rule::S2 | Rule::S3 | Rule::S4 | Rule::S5 | Rule::S7 | Rule::S8 | Rule::B1 => "",
+    }
+}
+
+/// A line of help for an explanation: by its first reason if this is a plain part, else by its rule. Empty if there is none.
+pub(crate) fn help(explanation: &Explanation) -> &'static str {
+    match explanation.reasons.first() {
+        Some(reason) => match reason.kind {
+            ReasonKind::Plain(cause) => cause_help(cause),
+            _ => rule_help(explanation.refusal.rule),
+        },
+        None => rule_help(explanation.refusal.rule),
+    }
+}
