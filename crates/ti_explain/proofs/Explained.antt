@@ -1,13 +1,15 @@
 -- From the answers of the phases to the explanation of a text.
-use Rattle.std.proofs.Common.{◌≡◌, inl, inr, ℕ, List, [], Contains, Option, Some, None, Result, Ok, Err, sym, ap, subst}
+use Rattle.std.proofs.Common.{◌≡◌, inl, inr, ℕ, List, [], Contains, Option, Some, None, Result, Ok, Err, sym, ap, ◌∙◌, subst, arith}
 use Rattle.ti_base.specs.declared.memory.Memory.{Memory}
 use Rattle.ti_base.specs.declared.place.Place.{Place}
 use Rattle.ti_syntax.specs.declared.token.Token.{Token}
 use Rattle.ti_syntax.specs.Trees.Classes.{TextTree}
-use Rattle.ti_syntax.specs.Spelling.{Misfit, IsGrammarRefusal}
+use Rattle.ti_syntax.specs.Spelling.{Misfit, Unexpected, TooDeep, IsGrammarRefusal, refused}
 use Rattle.ti_lang.specs.Program.Classes.{ProgramView}
 use Rattle.ti_lang.specs.Numbering.{Numbers}
 use Rattle.ti_rules.specs.declared.rule.Rule.{Rule}
+use Rattle.ti_rules.specs.declared.rule.Rule.TheVariants.{G1, G2}
+use Rattle.ti_rules.specs.Rules.{rule_number}
 use Rattle.ti_rules.specs.declared.refusal.Refusal.{Refusal}
 use Rattle.ti_rules.specs.LexicalRefusals.{IsLexicalRefusal}
 use Rattle.ti_rules.specs.Refusals.{IsFirstRefusal}
@@ -23,6 +25,7 @@ use Rattle.ti_parse.specs.Answer.{Parsed}
 use Rattle.ti_parse_expr.specs.declared.error.ParseErr.TheVariants as parser
 use Rattle.ti_explain.specs.declared.reason.Reason.{Reason}
 use Rattle.ti_explain.specs.declared.reason.Explanation.{Explanation}
+use Rattle.ti_explain.specs.Expected.{AreUnexpectedReasons, tried, untried}
 use Rattle.ti_explain.specs.Explanations.{AreProgramReasons, AreTreeReasons, AreTokenReasons, AreReasons, Explains}
 use Rattle.ti_explain.specs.Explanations as explained
 use Rattle.ti_explain.specs.Mirrors.Phases.{ProgramExplained, TreeExplained, TokensExplained, IsFine, IsParsed}
@@ -40,10 +43,21 @@ tree_refused tree r l (explained.of_program {program = p} {reasons = reasons} na
 refusal_at : Rule → Place → Refusal
 refusal_at rule place = record { rule = rule; place = place }
 
-tokens_refused : (bytes : List ℕ) (tokens : List Token) (r : Refusal) (l : List Reason) → HasTokens bytes tokens → AreTokenReasons tokens r l → IsRefusal bytes r
+misfit_refused : (bytes : List ℕ) (tokens : List Token) (r : Refusal) (misfit : Misfit) → HasTokens bytes tokens → r.rule ≡ rule_of_misfit misfit
+    → IsGrammarRefusal tokens (Some (misfit, r.place)) → IsRefusal bytes r
 unfolding refusal_at
-tokens_refused bytes tokens r l has (explained.of_misfit {misfit = misfit} rule is) =
-    subst (IsRefusal bytes) (ap (λ x. refusal_at x r.place) (sym rule)) (text.of_tokens has is)
+misfit_refused bytes tokens r misfit has rule is = subst (IsRefusal bytes) (ap (λ x. refusal_at x r.place) (sym rule)) (text.of_tokens has is)
+
+unexpected_refused : (tokens : List Token) (at : Place) (l : List Reason) → AreUnexpectedReasons tokens at l → IsGrammarRefusal tokens (Some (Unexpected, at))
+unexpected_refused tokens at l (tried front rest t is place shows expected) =
+    subst (λ p. IsGrammarRefusal tokens (Some (Unexpected, p))) place (refused front t rest is shows)
+unexpected_refused tokens at l (untried front rest t is place shows never) =
+    subst (λ p. IsGrammarRefusal tokens (Some (Unexpected, p))) place (refused front t rest is shows)
+
+tokens_refused : (bytes : List ℕ) (tokens : List Token) (r : Refusal) (l : List Reason) → HasTokens bytes tokens → AreTokenReasons tokens r l → IsRefusal bytes r
+tokens_refused bytes tokens r l has (explained.of_unexpected {reasons = reasons} rule is) =
+    misfit_refused bytes tokens r Unexpected has rule (unexpected_refused tokens r.place reasons is)
+tokens_refused bytes tokens r l has (explained.of_depth rule is) = misfit_refused bytes tokens r TooDeep has rule is
 
 -- ---- a refusal without reasons
 
@@ -89,5 +103,15 @@ pub bytes_then : (bytes : List ℕ) (r : Refusal) (e : Explanation) → e.refusa
 bytes_then bytes r e refusal reasons is =
     alone (λ x l. IsRefusal bytes x × AreReasons bytes x l) r e refusal reasons (text.of_bytes is, explained.of_bytes is)
 
-pub misfit_then : (tokens : List Token) (r : Refusal) → Parsed tokens (Err (parser.Refused r)) → AreTokenReasons tokens r []
-misfit_then tokens r (misfit, rule, is) = explained.of_misfit rule is
+two_rules : (r : Rule) → r ≡ G1 → r ≡ G2 → ⊥
+two_rules r one other = omega (arith, ap rule_number (sym one ∙ other))
+
+-- a refusal by G1 is one of an unexpected token
+pub unexpected_here : (tokens : List Token) (r : Refusal) → Parsed tokens (Err (parser.Refused r)) → r.rule ≡ G1 → IsGrammarRefusal tokens (Some (Unexpected, r.place))
+unexpected_here tokens r (Unexpected, rule, is) one = is
+unexpected_here tokens r (TooDeep, rule, is) one = absurd (two_rules r.rule one rule)
+
+-- another one is one of a token that is too deep
+pub depth_here : (tokens : List Token) (r : Refusal) → Parsed tokens (Err (parser.Refused r)) → (r.rule ≡ G1 → ⊥) → AreTokenReasons tokens r []
+depth_here tokens r (Unexpected, rule, is) never = absurd (never rule)
+depth_here tokens r (TooDeep, rule, is) never = explained.of_depth rule is

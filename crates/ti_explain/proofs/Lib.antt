@@ -3,3 +3,4 @@ pub mod FoundLaws
 pub mod MethodLaws
 pub mod NamedLaws
 pub mod PlainLaws
+pub mod TrialLaws

@@ -1,21 +1,23 @@
 -- What an explanation of a text is: its refusal, with the reasons for it. Each phase that refuses says which reasons there are; so far,
--- there are reasons for the rules of single values, and none for the others.
+-- there are reasons for an unexpected token and for the rules of single values, and none for the others.
 use Rattle.std.specs.Prelude.{◌≡◌, ℕ, List, [], Contains, Option, Some, None, Result, Ok, Err}
 use Rattle.ti_base.specs.declared.memory.Memory.{Memory}
 use Rattle.ti_syntax.specs.declared.token.Token.{Token}
 use Rattle.ti_syntax.specs.Trees.Classes.{TextTree}
-use Rattle.ti_syntax.specs.Spelling.{Misfit, IsGrammarRefusal}
+use Rattle.ti_syntax.specs.Spelling.{TooDeep, IsGrammarRefusal}
 use Rattle.ti_lang.specs.Program.Classes.{ProgramView}
 use Rattle.ti_lang.specs.Numbering.{Numbers}
+use Rattle.ti_rules.specs.declared.rule.Rule.TheVariants.{G1, G2}
 use Rattle.ti_rules.specs.declared.refusal.Refusal.{Refusal}
 use Rattle.ti_rules.specs.LexicalRefusals.{IsLexicalRefusal}
 use Rattle.ti_rules.specs.BrokenNames.{BreaksNames}
 use Rattle.ti_rules.specs.Refusals.{IsFirstRefusal}
 use Rattle.ti_rules.specs.TypeRules.{type_refusals}
 use Rattle.ti_rules.specs.SingleRules.{single_refusals}
-use Rattle.ti_rules.specs.RefusalOf.{HasNone, HasTokens, HasTree, rule_of_misfit, IsRefusal}
+use Rattle.ti_rules.specs.RefusalOf.{HasNone, HasTokens, HasTree, IsRefusal}
 use Rattle.ti_explain.specs.declared.reason.Reason.{Reason}
 use Rattle.ti_explain.specs.declared.reason.Explanation.{Explanation}
+use Rattle.ti_explain.specs.Expected.{AreUnexpectedReasons}
 use Rattle.ti_explain.specs.SingleReasons.{AreSingleReasons}
 
 -- the reasons for the first refusal of a program by the rules of types and qualifiers, or else by those of single values
@@ -32,8 +34,9 @@ pub data AreTreeReasons (tree : TextTree) (refusal : Refusal) : List Reason → 
 
 -- the reasons for the refusal of a list of tokens that doesn't fit the grammar
 pub data AreTokenReasons (tokens : List Token) (refusal : Refusal) : List Reason → Type 0 where
-  of_misfit : {misfit : Misfit} → refusal.rule ≡ rule_of_misfit misfit → IsGrammarRefusal tokens (Some (misfit, refusal.place))
-      → AreTokenReasons tokens refusal []
+  of_unexpected : {reasons : List Reason} → refusal.rule ≡ G1 → AreUnexpectedReasons tokens refusal.place reasons
+      → AreTokenReasons tokens refusal reasons
+  of_depth : refusal.rule ≡ G2 → IsGrammarRefusal tokens (Some (TooDeep, refusal.place)) → AreTokenReasons tokens refusal []
 
 -- the reasons for the refusal of a text
 pub data AreReasons (text : List ℕ) (refusal : Refusal) : List Reason → Type 0 where

@@ -1,3 +1,4 @@
+pub mod Expected
 pub mod Explanations
 pub mod FirstEffects
 pub mod Mirrors

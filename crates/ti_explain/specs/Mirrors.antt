@@ -1,3 +1,4 @@
 -- For proofs only: a functional model of the code. Only contracts of private functions depend on it.
 pub mod Found
 pub mod Phases
+pub mod Trials

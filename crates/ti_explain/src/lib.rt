@@ -2,6 +2,7 @@
 #![tactic(auto)]
 
 mod effects;
+mod expected;
 mod laws;
 mod methods;
 mod phases;

@@ -7,6 +7,7 @@ ghost use Rattle.ti_rules.specs.TypeRules.{type_refusals};
 ghost use Rattle.ti_explain.specs.Explanations.{Explains};
 ghost use Rattle.ti_explain.specs.Mirrors.Phases.{ProgramExplained, TreeExplained, TokensExplained};
 
+use crate::expected::expected;
 use crate::methods::single_reasons;
 use crate::reason::Explanation;
 use std::alloc::Global;
@@ -16,7 +17,7 @@ use ti_lang::program::Program;
 use ti_lex::{LexErr, lex, one_reading};
 use ti_names::{NameErr, one_program, resolve};
 use ti_parse::{ParseErr, one_text, parse};
-use ti_rules::{Refusal, one_program_refusal};
+use ti_rules::{Refusal, Rule, one_program_refusal};
 use ti_syntax::Token;
 use ti_syntax::tree::Tree;
 
@@ -77,7 +78,13 @@ fn explain_tokens(alloc: Global, tokens: Vec<Token>) -> Result<Option<Explanatio
 {
     match parse(alloc, &tokens) {
         Ok(tree) => explain_tree(alloc, &tree),
-        Err(ParseErr::Refused(refusal)) => Ok(Some(unexplained(alloc, refusal))),
+        Err(ParseErr::Refused(refusal)) => match refusal.rule {
+            Rule::G1 => {
+                let reasons = expected(alloc, tokens, refusal.place)?;
+                Ok(Some(Explanation { refusal, reasons }))
+            }
+            _ => Ok(Some(unexplained(alloc, refusal))),
+        },
         Err(ParseErr::Memory) => Err(Memory),
     }
 }

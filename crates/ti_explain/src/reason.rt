@@ -2,6 +2,7 @@
 
 use ti_base::Place;
 use ti_rules::Refusal;
+use ti_syntax::Spelled;
 
 /// Why a part of an expression is plain, that is, may differ between processes.
 #[derive(Clone, Copy, Debug, PartialEq, Eq)]
@@ -74,8 +75,10 @@ pub struct EffectAt {
 }
 
 /// What a reason says of its position.
-#[derive(Clone, Copy, Debug, PartialEq, Eq)]
+#[derive(Debug, Drop)]
 pub enum ReasonKind {
+    /// A token of this text could stand here.
+    Expected(Spelled),
     /// This part of a value, a condition or a domain that has to be single is plain.
     Plain(PlainCause),
     /// This statement has a global effect.
@@ -85,7 +88,7 @@ pub enum ReasonKind {
 }
 
 /// A reason for a refusal: a position in the text, and what is there.
-#[derive(Clone, Copy, Debug, PartialEq, Eq)]
+#[derive(Debug, Drop)]
 pub struct Reason {
     pub place: Place,
     pub kind: ReasonKind,

@@ -1,10 +1,11 @@
 // The report of an explanation: the refusal, the lines of the text that matter with marks below them, and help.
 
+use crate::expectation::expectation;
 use crate::source::{Window, line_of, shown, token_at, token_len, width_of, window_around};
 use crate::wording::{help, primary_label, reason_label};
 use std::alloc::{AllocError, AllocFailed, Global};
 use ti_base::Place;
-use ti_explain::{Explanation, Reason};
+use ti_explain::{Explanation, Reason, ReasonKind};
 use ti_rules::{Refusal, rule_text};
 
 // The largest number of marks that are shown.
@@ -34,9 +35,14 @@ struct Mark {
     label: String,
 }
 
-fn own_mark(alloc: Global, refusal: Refusal) -> Result<Mark, NoMemory> {
-    let mut label = String::new(alloc);
-    label.push_str(primary_label(refusal.rule))?;
+// The mark of the refusal itself. Where the text says what could stand there, its label does.
+fn own_mark(alloc: Global, text: &[u8], explanation: &Explanation) -> Result<Mark, NoMemory> {
+    let refusal = explanation.refusal;
+    let token = shown(alloc, token_at(text, refusal.place))?;
+    let mut label = expectation(alloc, &explanation.reasons, token.as_str())?;
+    if label.is_empty() {
+        label.push_str(primary_label(refusal.rule))?;
+    }
     Ok(Mark {
         place: refusal.place,
         drawn: '^',
@@ -49,16 +55,21 @@ fn reason_mark(alloc: Global, text: &[u8], reason: &Reason) -> Result<Mark, NoMe
     Ok(Mark {
         place: reason.place,
         drawn: '-',
-        label: reason_label(alloc, reason.kind, token.as_str())?,
+        label: reason_label(alloc, &reason.kind, token.as_str())?,
     })
+}
+
+// Whether the reason is said by the mark of the refusal itself.
+fn is_expectation(reason: &Reason) -> bool {
+    matches!(reason.kind, ReasonKind::Expected(_))
 }
 
 // The marks of an explanation, in the order of the text.
 fn marks_of(alloc: Global, text: &[u8], explanation: &Explanation) -> Result<Vec<Mark>, NoMemory> {
     let mut marks = Vec::new(alloc);
-    marks.push(own_mark(alloc, explanation.refusal)?)?;
+    marks.push(own_mark(alloc, text, explanation)?)?;
     for reason in &explanation.reasons {
-        if marks.len() < MOST_MARKS {
+        if marks.len() < MOST_MARKS && !is_expectation(reason) {
             marks.push(reason_mark(alloc, text, reason)?)?;
         }
     }

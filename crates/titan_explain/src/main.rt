@@ -7,6 +7,7 @@
 #![tactic(auto)]
 
 mod excerpt;
+mod expectation;
 mod source;
 mod wording;
 

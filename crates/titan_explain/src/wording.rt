@@ -12,7 +12,7 @@ pub(crate) fn primary_label(rule: Rule) -> &'static str {
         Rule::X3 => "this string has no closing quote on its line",
         Rule::X4 => "this number is too large, or begins with a 0",
         Rule::X5 => "a source has at most 1048576 bytes",
-        Rule::G1 => "the tokens up to this one begin no program",
+        Rule::G1 => "no program has this token after those before it",
         Rule::G2 =>
             "more than 64 levels of statements, or more than 256 operators in an expression",
         Rule::N1 => "nothing of this name can be used here",
@@ -89,13 +89,14 @@ fn push_effect(label: &mut String, effect: GlobalEffect, token: &str) -> Result<
 /// The label of a reason of this kind; `token` is the token at its position.
 pub(crate) fn reason_label(
     alloc: Global,
-    kind: ReasonKind,
+    kind: &ReasonKind,
     token: &str,
 ) -> Result<String, AllocError> {
     let mut label = String::new(alloc);
     match kind {
-        ReasonKind::Plain(cause) => push_cause(&mut label, cause, token)?,
-        ReasonKind::Effect(effect) => push_effect(&mut label, effect, token)?,
+        ReasonKind::Plain(cause) => push_cause(&mut label, *cause, token)?,
+        ReasonKind::Effect(effect) => push_effect(&mut label, *effect, token)?,
+        ReasonKind::Expected(_) => {}
         ReasonKind::PlainMethod => {
             label.push('`')?;
             label.push_str(token)?;
@@ -169,8 +170,8 @@ fn rule_help(rule: Rule) -> &'static str {
 /// A line of help for an explanation: by its first reason if this is a plain part, else by its rule. Empty if there is none.
 pub(crate) fn help(explanation: &Explanation) -> &'static str {
     match explanation.reasons.first() {
-        Some(reason) => match reason.kind {
-            ReasonKind::Plain(cause) => cause_help(cause),
+        Some(reason) => match &reason.kind {
+            ReasonKind::Plain(cause) => cause_help(*cause),
             _ => rule_help(explanation.refusal.rule),
         },
         None => rule_help(explanation.refusal.rule),
