@@ -7,7 +7,7 @@ use std::alloc::Global;
 use std::collections::HashMap;
 use ti_base::Memory;
 
-/// For each region, the serial numbers of what is in it, ascending. A region in which nothing is takes no memory.
+/// For each region, the serial numbers of what is in it, ascending. A region in which nothing is has no entry.
 #[derive(Drop)]
 pub struct RegionIndex {
     alloc: Global,
