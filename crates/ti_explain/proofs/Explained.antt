@@ -28,7 +28,7 @@ use Rattle.ti_explain.specs.declared.reason.Explanation.{Explanation}
 use Rattle.ti_explain.specs.Expected.{AreUnexpectedReasons, tried, untried}
 use Rattle.ti_explain.specs.Explanations.{AreProgramReasons, AreTreeReasons, AreTokenReasons, AreReasons, Explains}
 use Rattle.ti_explain.specs.Explanations as explained
-use Rattle.ti_explain.specs.Mirrors.Phases.{ProgramExplained, TreeExplained, TokensExplained, IsFine, IsParsed}
+use Rattle.ti_explain.specs.Mirrors.Phases.{ProgramExplained, TreeExplained, TokensExplained, IsParsed}
 
 -- ---- explained is refused
 

@@ -1,5 +1,5 @@
 -- Lemmas on what the search has found in the methods of a program.
-use Rattle.std.proofs.Common.{◌≡◌, ◌⊎◌, inl, inr, ℕ, ◌+◌, ◌<◌, zero-lt-suc, List, [], ◌∷◌, ◌++◌, length, get_or, slice_get, flat_map, Contains, Option, Some, None, Result, Ok, Err, IfOk, refl, ap, sym, ◌∙◌, subst, arith}
+use Rattle.std.proofs.Common.{◌≡◌, inl, inr, ℕ, ◌+◌, ◌<◌, zero-lt-suc, List, [], ◌∷◌, length, slice_get, flat_map, Contains, Option, Some, None, Result, Ok, Err, IfOk, refl, ap, sym, ◌∙◌, subst, arith}
 use Rattle.std.proofs.lemmas.List.Elements.{Contains-append_left, Contains-append_right, Contains-append_cases, Contains-push_cases}
 use Rattle.std.proofs.lemmas.Bool.{cases_order}
 use Rattle.std.proofs.lemmas.Option.{slice_get-get_or, get_or_from_slice_get, slice_get_within, same_Some}
@@ -11,10 +11,10 @@ use Rattle.ti_rules.specs.declared.refusal.Refusal.{Refusal}
 use Rattle.ti_rules.specs.Refusals.{IsFirstRefusal}
 use Rattle.ti_rules.specs.Mirrors.First.{earliest}
 use Rattle.ti_rules.specs.SingleRules.{standing_single_refusals, method_single_refusals, single_refusals}
-use Rattle.ti_rules.specs.StmtInContext.{StmtInContext, standing_in_method, standing_in}
+use Rattle.ti_rules.specs.StmtInContext.{StmtInContext, standing_in_method}
 use Rattle.ti_rules.proofs.Lemmas.{first_only, not_among}
 use Rattle.ti_explain.specs.declared.reason.Reason.{Reason}
-use Rattle.ti_explain.specs.SingleReasons.{head_refusals, method_reasons, statement_reasons, AreSingleReasons, of_statement, of_head}
+use Rattle.ti_explain.specs.SingleReasons.{head_refusals, AreSingleReasons, of_statement, of_head}
 use Rattle.ti_explain.specs.Mirrors.Found.{IsFound, IsFoundInHead, IsFoundInMethod, IsFoundAt}
 
 -- ---- lists of lists

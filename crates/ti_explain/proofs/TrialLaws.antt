@@ -16,7 +16,7 @@ use Rattle.ti_syntax.specs.declared.token.TokenKind.{TokenKind}
 use Rattle.ti_syntax.specs.declared.token.TokenKind.TheVariants as k
 use Rattle.ti_syntax.specs.Tokenizing.{IsTokenized}
 use Rattle.ti_syntax.specs.Trees.Classes.{TextTree}
-use Rattle.ti_syntax.specs.Spelling.{Spells, BeginsText, IsTooDeep, IsShallow, Misfit, Unexpected, TooDeep, ShowsMisfit, unexpected, too_deep, IsGrammarRefusal, refused}
+use Rattle.ti_syntax.specs.Spelling.{Spells, BeginsText, IsShallow, Misfit, Unexpected, TooDeep, ShowsMisfit, unexpected, too_deep, IsGrammarRefusal, refused}
 use Rattle.ti_rules.specs.declared.refusal.Refusal.{Refusal}
 use Rattle.ti_rules.specs.LexicalRefusals.{most_bytes}
 use Rattle.ti_parse_expr.specs.Answers.{EndsAtEnd}

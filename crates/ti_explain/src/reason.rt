@@ -94,7 +94,8 @@ pub struct Reason {
     pub kind: ReasonKind,
 }
 
-/// The refusal of a text, with its reasons. Where reasons are found for a rule, the first is the part that has to be changed.
+/// The refusal of a text, with its reasons in a fixed order: for an unexpected token that of the texts that are tried; for a rule of single
+/// values the plain part, if there is one, and then the effect.
 #[derive(Drop)]
 pub struct Explanation {
     pub refusal: Refusal,

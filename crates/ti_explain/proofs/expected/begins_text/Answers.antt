@@ -1,4 +1,4 @@
-use Rattle.std.proofs.Common.{◌≡◌, Bool, Result, Ok, Err, IfOk, sym, subst}
+use Rattle.std.proofs.Common.{Bool, Result, Err, IfOk, sym, subst}
 use Rattle.ti_base.specs.declared.memory.Memory.{Memory}
 use Rattle.ti_syntax.specs.Trees.Text.{tree_of}
 use Rattle.ti_parse.specs.Answer.{Parsed}

@@ -1,9 +1,6 @@
-use Rattle.std.proofs.Common.{◌≡◌, ℕ, List, [], Option, Some, None, Bool, true, false, Result, IfOk, map, refl, ap, sym, ◌∙◌, subst}
-use Rattle.std.specs.declared.vec.Vec.{Vec}
-use Rattle.std.specs.declared.alloc.Global.{Global}
+use Rattle.std.proofs.Common.{List, Some, None, true, false, refl, sym, subst}
 use Rattle.ti_syntax.specs.declared.token.Token.{Token}
-use Rattle.ti_explain.specs.declared.reason.Reason.{Reason}
-use Rattle.ti_explain.specs.Expected.{AreUnexpectedReasons, IsAlone}
+use Rattle.ti_explain.specs.Expected.{AreUnexpectedReasons}
 use Rattle.ti_explain.specs.Mirrors.Trials.{IsFirstAt, AloneIf}
 use Rattle.ti_explain.proofs.TrialLaws.{refused_there, not_nothing, untried_then, alone_within, alone_placed, alone_is_front, tried_then_all}
 use Rattle.ti_explain.proofs.expected.expected.Goals as goal

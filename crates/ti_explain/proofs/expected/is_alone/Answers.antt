@@ -1,5 +1,5 @@
 use Rattle.std.proofs.Common.{arith}
-use Rattle.ti_explain.proofs.TrialLaws.{more_before, not_fitting, all_before}
+use Rattle.ti_explain.proofs.TrialLaws.{all_before}
 use Rattle.ti_explain.proofs.expected.is_alone.Goals as goal
 
 pub returns : goal.returns

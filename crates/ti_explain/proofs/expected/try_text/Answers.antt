@@ -1,5 +1,5 @@
-use Rattle.std.proofs.Common.{Some, None, take, sym, ap, ◌∙◌, subst}
-use Rattle.ti_explain.specs.Mirrors.Trials.{IsKindOf, BeginsIf}
+use Rattle.std.proofs.Common.{Some, None, take, ◌∙◌, subst}
+use Rattle.ti_explain.specs.Mirrors.Trials.{IsKindOf}
 use Rattle.ti_explain.proofs.TrialLaws.{trial_ends, tried_then, no_token}
 use Rattle.ti_explain.proofs.expected.try_text.Goals as goal
 

@@ -1,10 +1,9 @@
-use Rattle.std.proofs.Common.{◌≡◌, Some, ap, sym, ◌∙◌, subst, IfOk, Option}
+use Rattle.std.proofs.Common.{ap, subst, IfOk, Option}
 use Rattle.std.specs.declared.vec.Vec.{Vec}
 use Rattle.std.specs.declared.alloc.Global.{Global}
-use Rattle.ti_lang.specs.Program.Classes.{NumberedMethod, ProgramView}
 use Rattle.ti_lang.specs.Program.Views.{program_of, numbered_method_of}
 use Rattle.ti_rules.specs.StmtInContext.{StmtContext}
-use Rattle.ti_single.specs.Contexts.{program_at, around_of}
+use Rattle.ti_single.specs.Contexts.{around_of}
 use Rattle.ti_explain.specs.declared.reason.Reason.{Reason}
 use Rattle.ti_explain.specs.Mirrors.Found.{IsFoundInMethod}
 use Rattle.ti_explain.proofs.MethodLaws.{then_at}

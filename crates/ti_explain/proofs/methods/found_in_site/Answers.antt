@@ -1,4 +1,4 @@
-use Rattle.std.proofs.Common.{Some, None, map, inl, ap, sym, ◌∙◌, subst}
+use Rattle.std.proofs.Common.{map, inl, ap, ◌∙◌, subst}
 use Rattle.ti_lang.specs.Program.Statements.{numbered_stms}
 use Rattle.ti_lang.specs.Program.Views.{statement_of}
 use Rattle.ti_rules.specs.StmtInContext.{inside_all, standing_in_method}

@@ -1,5 +1,4 @@
-use Rattle.std.proofs.Common.{Err, ap, subst}
-use Rattle.ti_lang.specs.declared.program.numbered.Program.{Program}
+use Rattle.std.proofs.Common.{Err, subst}
 use Rattle.ti_lang.specs.Program.Views.{program_of}
 use Rattle.ti_check.specs.Answer.{GivesChecked}
 use Rattle.ti_check.specs.declared.error.CheckErr.{CheckErr}

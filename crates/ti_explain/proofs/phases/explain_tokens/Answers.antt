@@ -5,7 +5,7 @@ use Rattle.ti_parse.specs.Answer.{Parsed}
 use Rattle.ti_parse_expr.specs.declared.error.ParseErr.{ParseErr}
 use Rattle.ti_parse_expr.specs.declared.error.ParseErr.TheVariants.{Refused}
 use Rattle.ti_explain.specs.Explanations.{AreTokenReasons, of_unexpected}
-use Rattle.ti_explain.proofs.Explained.{alone, tree_then, unexpected_here, depth_here}
+use Rattle.ti_explain.proofs.Explained.{alone, tree_then, depth_here}
 use Rattle.ti_explain.proofs.phases.explain_tokens.Goals as goal
 
 pub returns-in-Ok : goal.returns-in-Ok
