@@ -55,9 +55,6 @@ IsObject x class = ⊥
 
 -- ---- the method of a call
 
-some_method : (m n : NumberedMethod) → Some m ≡ Some n → m ≡ n
-some_method m n e = cc
-
 none_method : (n : NumberedMethod) → ◌≡◌ {A = Option NumberedMethod} None (Some n) → ⊥
 none_method n e = cc
 
@@ -141,10 +138,6 @@ thing_at p o = found_or NullRef p o >>= λ id. gives (record { thing = id; type 
 
 abbrev object_at : Place → Option Id → Comp (Option Id)
 object_at p o = thing_at p o >>= λ x. gives (Some x.thing)
-
-own_holds : (t : Option ℕ) (th : Option Id) (h : Held) → IsReceiver t th h → SlotsHold th (this_names t) [] [] (own_slots t th)
-own_holds None th h z = none z
-own_holds (Some class) th h z = object
 
 module _ (c : List Instr) (env : Env) (names : List Name) (slots : List Held) (holds : SlotsHold env.this names env.variables env.turns slots) where
   abbrev here_at : ℕ → List Held → LocalState

@@ -72,13 +72,6 @@ trimmed_holds this xs ns before vs ts hs (newest {ns = ms} {y = y} e k) (variabl
     subst (λ ws. SlotsHold this before ws ts (oldest_slots (length before) (g ∷ gs))) (sym (ap (λ b. if not b then record { named = y; held = g } ∷ without_variables xs us else without_variables xs us) e))
     (subst (λ fs. SlotsHold this before (without_variables xs us) ts fs) (sym (drop_one (length before) g gs few)) (trimmed_holds this xs ms before us ts gs k h))
 
--- a slot that no name means is dropped
-pub hidden_dropped : (this : Option Id) (ns : List Name) (vs : List Variable) (ts : List Turn) (hs : List Held) → SlotsHold this (Hidden ∷ ns) vs ts hs → SlotsHold this ns vs ts (oldest_slots (length ns) hs)
-hidden_dropped this ns vs ts hs (hidden {hs = gs} {h = g} k) =
-    let same = as_many this ns vs ts gs k in
-    let few : length ns ≤ length gs = omega (arith, same) in
-    subst (λ fs. SlotsHold this ns vs ts fs) (sym (drop_one (length ns) g gs few ∙ drop_none (length ns) (length gs) gs same)) k
-
 -- the same names below so many that mean nothing
 abbrev pub hide : List Held → List Name → List Name
 hide [] ns = ns

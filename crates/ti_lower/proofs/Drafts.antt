@@ -71,9 +71,6 @@ module _ (program : ProgramView) (this : Option ℕ) (result : ValueType) where
   abbrev S : NumberedStm → Bool → List Name → ℕ → List Instr
   S x b = stm_code program this result x (unknown b)
 
-  abbrev body_in : NumberedStm → List Name → Option LoopTargets → ℕ → List Instr
-  body_in body names l from = stm_code program this result body l names from
-
   abbrev mutual
     -- where the forward jumps of a statement lead, in the order in which they are noted, within a loop that walks over a domain or not
     targets_of : NumberedStm → Bool → List Name → ℕ → List ℕ
@@ -175,9 +172,6 @@ module _ (program : ProgramView) (this : Option ℕ) (result : ValueType) (known
   recoded : (w v : CodeBuilder) (names : List Name) (size : ℕ) (ts : List ℕ) (a b : List Instr) → a ≡ b → Drafts w v names size ts a → Drafts w v names size ts b
   recoded w v names size ts a b e d =
       record { names_are = d.names_are; size_is = d.size_is; targets_are = d.targets_are; code_is = λ k. d.code_is k ∙ ap (λ z. w.code ++ z) e }
-
-  retold : (w v : CodeBuilder) (names : List Name) (size : ℕ) (ts us : List ℕ) (code : List Instr) → ts ≡ us → Drafts w v names size ts code → Drafts w v names size us code
-  retold w v names size ts us code e d = subst (λ z. Drafts w v names size z code) e d
 
   -- ---- lists
 

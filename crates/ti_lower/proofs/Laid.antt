@@ -245,72 +245,9 @@ returned w p result (Some x) l = after (value w x) (after (fixed (conversion p r
 
 -- ---- the same, said of the code
 
-pub values_is : (w : Where) (xs : NumberedExps) (code : List Instr)
-    → values_on w xs code ≡ code ++ code_of_all w.program w.this w.names xs (length code)
-values_is w xs code = (values w xs).is code
-
-pub source_is : (w : Where) (right : Source) (code : List Instr)
-    → source_on w right code ≡ code ++ right_code w.program w.this right w.names (length code)
-source_is w right code = (source w right).is code
-
-pub place_is : (w : Where) (x : NumberedExp) (code : List Instr) → place_on w x code ≡ code ++ place_code w.program w.this w.names x (length code)
-place_is w x code = (place w x).is code
-
-pub update_is : (w : Where) (p q : Place) (name : Operation) (k : StaticRepr) (type : ValueType) (target : TargetKind) (right : Source) (code : List Instr)
-    → update_on w p q name k type target right code
-    ≡ code ++ update_code w.names p q name k type target (right_code w.program w.this right) (length code)
-update_is w p q name k type target right code = (update w p q name k type target right).is code
-
-pub into_is : (w : Where) (r : Receiver) (kind : OperandClass) (k : StaticRepr) (right : Source) (code : List Instr)
-    → into_on w r kind k right code ≡ code ++ into_code w.program w.this r kind k (right_code w.program w.this right) w.names (length code)
-into_is w r kind k right code = (into w r kind k right).is code
-
-pub waiting_is : (w : Where) (r : Receiver) (kind : OperandClass) (k : StaticRepr) (code : List Instr)
-    → spill_on w r kind k code ≡ code ++ waiting_code w.program w.this r kind k w.names (length code)
-waiting_is w r kind k code = (waiting w r kind k).is code
-
-pub late_is : (w : Where) (r : Receiver) (kind : OperandClass) (k : StaticRepr) (code : List Instr)
-    → store_result_on w r kind k code ≡ code ++ late_code w.program w.this r kind k w.names (length code)
-late_is w r kind k code = (late w r kind k).is code
-
-pub args_is : (w : Where) (ps : List VariableUse) (xs : NumberedExps) (code : List Instr)
-    → args_on w ps xs code ≡ code ++ args_code w.program w.this w.names ps xs (length code)
-args_is w ps xs code = (args w ps xs).is code
-
-pub call_is : (w : Where) (k : ℕ) (c : Call) (code : List Instr) → call_on w k c code ≡ code ++ call_code w.program w.this w.names k c (length code)
-call_is w k c code = (call w k c).is code
-
-pub valued_is : (w : Where) (r : Receiver) (x : NumberedExp) (c : Option Call) (code : List Instr)
-    → valued_on w r x c code ≡ code ++ valued_code w.program w.this r x c w.names (length code)
-valued_is w r x c code = (valued w r x c).is code
-
-pub region_is : (w : Where) (x : Option NumberedExp) (code : List Instr)
-    → region_on w x code ≡ code ++ region_code w.program w.this w.names x (length code)
-region_is w x code = (region w x).is code
-
-pub spread_is : (w : Where) (p : Place) (dims : NumberedDims) (code : List Instr)
-    → spread_on w p dims code ≡ code ++ spread_code w.program w.this w.names p dims (length code)
-spread_is w p dims code = (spread w p dims).is code
-
 pub init_is : (w : Where) (r : Receiver) (x : NumberedInit) (code : List Instr)
     → init_on w r x code ≡ code ++ init_code w.program w.this r x w.names (length code)
 init_is w r x code = (init w r x).is code
-
-pub both_is : (w : Where) (x : NumberedExp) (xs : NumberedExps) (code : List Instr)
-    → both_on w x xs code ≡ code ++ both_code w.program w.this w.names x xs (length code)
-both_is w x xs code = (both w x xs).is code
-
-pub copy_is : (w : Where) (p : Place) (x : NumberedExp) (xs : NumberedExps) (code : List Instr)
-    → copy_on w p x xs code ≡ code ++ copy_code w.program w.this p w.names x xs (length code)
-copy_is w p x xs code = (copy w p x xs).is code
-
-pub exchange_is : (w : Where) (p : Place) (x : NumberedExp) (xs : NumberedExps) (code : List Instr)
-    → exchange_on w p x xs code ≡ code ++ exchange_code w.program w.this p w.names x xs (length code)
-exchange_is w p x xs code = (exchange w p x xs).is code
-
-pub alone_is : (w : Where) (is_void : Bool) (x : NumberedExp) (c : Option Call) (code : List Instr)
-    → alone_on w is_void x c code ≡ code ++ alone_code w.program w.this is_void x c w.names (length code)
-alone_is w is_void x c code = (alone w is_void x c).is code
 
 pub stands_is : (w : Where) (x : NumberedExp) (code : List Instr)
     → stands_on w x code
@@ -318,7 +255,7 @@ pub stands_is : (w : Where) (x : NumberedExp) (code : List Instr)
     (call_by x (called_method w.program w.this x)) w.names (length code)
 stands_is w x code =
     let c = call_by x (called_method w.program w.this x) in
-    alone_is w (gives_nothing w.program w.this c) x c code
+    (alone w (gives_nothing w.program w.this c) x c).is code
 
 pub print_is : (w : Where) (p : Place) (x : NumberedPrint) (code : List Instr)
     → print_on w p x code ≡ code ++ print_code w.program w.this p w.names x (length code)

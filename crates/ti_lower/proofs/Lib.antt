@@ -26,6 +26,7 @@ mod PremisesStated
 mod PremisesHold
 mod PremisesChecked
 pub mod Hiding
+mod Seen
 mod Elementwise
 mod Laid
 pub mod Drafts

@@ -9,7 +9,7 @@ use Rattle.ti_base.specs.declared.point.Point.{Point}
 use Rattle.ti_syntax.specs.declared.tree.exprs.BinaryOperator.{BinaryOperator}
 use Rattle.ti_lang.specs.Program.Types.{ValueType, VariableUse}
 use Rattle.ti_lang.specs.Program.Types as t
-use Rattle.ti_lang.specs.Program.Expressions.{NumberedExp, NumberedExps, place_of_numbered}
+use Rattle.ti_lang.specs.Program.Expressions.{NumberedExp, place_of_numbered}
 use Rattle.ti_lang.specs.Program.Expressions as e
 use Rattle.ti_lang.specs.Program.Scope.{this_of}
 use Rattle.ti_lang.specs.Typing.TextTypes.{how_many}
@@ -99,10 +99,6 @@ module _ (c : List Instr) (env : Env) (names : List Name) (slots : List Held) (h
       does_behind w c (Stored (at + 1) names stack) (here at (h ∷ stack)) (here (at + 1) stack) (gives new) i.Pop st.0 (λ rs. refl)
       (does_value w c (Stored (at + 1) names stack) _ new (slots, subst (λ vs. SlotsHold env.this names vs env.turns slots) (sym z) holds, refl))
 
-  -- the same slots behind it
-  kept_slots : (at : ℕ) (stack : List Held) (s : LocalState) → s ≡ here at stack → Stored at names stack env.variables s
-  kept_slots at stack s e = (slots, holds, e)
-
   -- ---- targets
 
   -- the operands that the reference and the index of a target are, above these
@@ -167,10 +163,6 @@ module _ (c : List Instr) (env : Env) (names : List Name) (slots : List Held) (h
       (rest_stands c (pc_after at xs) ys _ (rest_stands c at xs _ st)).0 (λ rs. point_made (how_many parts) k.0 ns mid (h ∷ stack) k.2 k.1 rs)
       (does_value w c Q _ (made h ns) (Plain (v.Pt (literal.point_of_numbers ns)) ∷ h ∷ stack, (h, type_of env x, literal.point_of_numbers ns, refl, refl), refl))))))
   place_does other at stack st = none_placed at stack st
-
-  -- a value goes from above its reference and index where these say
-  abbrev pub type_in : NumberedExp → ValueType
-  type_in = type_of env
 
   -- an action through a reference that is needed, behind which the variables are as before
   cell_written : (p : Place) (through : ValueType) (h : Held) (f g : Reference → Request) (s : LocalState) (j : Instr) (stack : List Held) → slice_get c s.at ≡ Some j

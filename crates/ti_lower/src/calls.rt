@@ -13,12 +13,12 @@ ghost use Rattle.ti_lower.specs.Mirrors.Positions.{where_of, object_of, call_sit
 ghost use Rattle.ti_lower.specs.Mirrors.Values.{arg_on, args_on, object_on, call_on};
 
 use crate::emit_context::EmitContext;
-use crate::values::value;
+use crate::values::{known_value, value};
 use ti_base::{Memory, Place};
 use ti_code::Instr;
 use ti_lang::program::{Expr, Method, Param, Params, ProgramData};
 use ti_lang::typing::{TyRef, called_method, syntactic_type};
-use ti_lower_expr::{add_conversion, emit, known_of, load_this, to_u32};
+use ti_lower_expr::{add_conversion, emit, load_this, to_u32};
 
 /// The object of a call: none, `this`, or an expression.
 #[derive(Clone, Copy)]
@@ -152,9 +152,9 @@ fn arg(
     ensures { OnOk result (out.new.items ≡ arg_on (where_of context.now) (numbered_param_of param.now).ty.type
         (expression_of expr.now) out.old.items) }
 {
-    value(context, expr, out)?;
-    let known = known_of(context.site.program, context.site.this, expr);
-    add_conversion(expr.place(), TyRef::of(&param.ty.ty, false), known, out)
+    let value = known_value(context, expr, out)?;
+    let ty = TyRef::of(&param.ty.ty, false);
+    add_conversion(expr.place(), ty, value.known, out)
 }
 
 // Generates arguments for parameters, in order.

@@ -1,22 +1,23 @@
 // The right sides of declarations and assignments, each with the store of its value.
 
-ghost use Rattle.std.specs.Prelude.{◌≡◌, OnOk, map};
+ghost use Rattle.std.specs.Prelude.{◌≡◌, OnOk, IfOk, map};
 ghost use Rattle.ti_syntax.specs.Trees.Views.{maybe_of};
 ghost use Rattle.ti_lang.specs.Program.Views.{expression_of, extent_of, initial_of};
 ghost use Rattle.ti_lang.specs.Typing.Called.{called_method};
 ghost use Rattle.ti_lang.specs.Meaning.Calls.{call_by};
+ghost use Rattle.ti_lower_expr.specs.Coding.{kind_in};
 ghost use Rattle.ti_lower.specs.Mirrors.Positions.{where_of, dest_of};
 ghost use Rattle.ti_lower.specs.Mirrors.Values.{valued_on, region_on, spread_on, root_on, init_on};
 
 use crate::calls::{call, call_site, number_called};
 use crate::emit_context::EmitContext;
 use crate::receivers::{Receiver, evaluate_into, store_result};
-use crate::values::{StoreSource, rect, value};
+use crate::values::{StoreSource, known_value, rect, value};
 use ti_base::{CollKind, Memory, Place, Value};
 use ti_code::{Instr, Operation};
 use ti_lang::program::{Dims, Expr, Init};
-use ti_lang::typing::zero_of_type;
-use ti_lower_expr::{OperandClass, StaticRepr, emit, kind_in, known_of, u32_sum};
+use ti_lang::typing::{syntactic_type, zero_of_type};
+use ti_lower_expr::{OperandClass, StaticRepr, emit, kind_of_seen, u32_sum};
 
 /// Generates an expression and the store of its value. A call comes before its target is evaluated, another expression after it.
 pub fn value_and_store(
@@ -29,7 +30,6 @@ pub fn value_and_store(
         (call_by (expression_of expr.now) (called_method (where_of context.now).program (where_of context.now).this (expression_of expr.now)))
         out.old.items) }
 {
-    let kind = kind_in(context.site.program, context.site.this, expr);
     match call_site(context.site.program, context.site.this, expr) {
         Some(c) => {
             call(
@@ -38,19 +38,10 @@ pub fn value_and_store(
                 &c,
                 out,
             )?;
-            store_result(context, receiver, kind, StaticRepr::Other, out)
+            let ty = syntactic_type(context.site.program, context.site.this, expr);
+            store_result(context, receiver, kind_of_seen(ty), StaticRepr::Other, out)
         }
-        None => {
-            let known = known_of(context.site.program, context.site.this, expr);
-            evaluate_into(
-                context,
-                receiver,
-                kind,
-                known,
-                StoreSource::Value(expr),
-                out,
-            )
-        },
+        None => evaluate_into(context, receiver, StoreSource::Value(expr), out),
     }
 }
 
@@ -80,14 +71,18 @@ fn extent(
 }
 
 // Generates a broadcast after the root's number: the root evaluates its contribution, the other processes push `false`; all arrive and
-// leave.
+// leave. Returns the kind of the contribution's type.
 fn root(
     context: &EmitContext,
     place: Place,
     expr: &Expr,
     out: &mut Vec<Instr>,
-) -> Result<(), Memory>
-    ensures { OnOk result (out.new.items ≡ root_on (where_of context.now) place (expression_of expr.now) out.old.items) }
+) -> Result<OperandClass, Memory>
+    ensures code { OnOk result (out.new.items
+        ≡ root_on (where_of context.now) place (expression_of expr.now) out.old.items) }
+    ensures kind { IfOk result (λ k. k
+        ≡ kind_in (where_of context.now).program (where_of context.now).this
+        (expression_of expr.now)) }
 {
     out.extend_from_slice(&[
         Instr::RootTest(place),
@@ -97,7 +92,7 @@ fn root(
     ])?;
     let jump = out.len();
     emit(Instr::JumpIfNot(0), out)?;
-    value(context, expr, out)?;
+    let value = known_value(context, expr, out)?;
     let other = u32_sum(out.len(), 1)?;
     let end = u32_sum(out.len(), 2)?;
     if jump < out.len() {
@@ -109,7 +104,7 @@ fn root(
         Instr::Arrive(CollKind::Broadcast, place),
         Instr::Depart(place),
     ])?;
-    Ok(())
+    Ok(value.kind)
 }
 
 /// Generates a right side and the store of its value.
@@ -175,8 +170,7 @@ pub fn init(
             root: r,
         } => {
             value(context, r, out)?;
-            root(context, *place, x, out)?;
-            let kind = kind_in(context.site.program, context.site.this, x);
+            let kind = root(context, *place, x, out)?;
             store_result(context, receiver, kind, StaticRepr::Other, out)
         }
     }

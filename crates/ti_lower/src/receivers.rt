@@ -4,17 +4,21 @@
 ghost use Rattle.std.specs.Prelude.{◌≡◌, OnOk, IfOk};
 ghost use Rattle.ti_lang.specs.Program.Views.{variable_of, type_use_of};
 ghost use Rattle.ti_lang.specs.Typing.TyRef.{ty_view};
+ghost use Rattle.ti_lower_expr.specs.Coding.{operation};
+ghost use Rattle.ti_lower_expr.specs.Knowing.{operated_known};
 ghost use Rattle.ti_lang.specs.Meaning.Processes.{Assigned, Updated};
 ghost use Rattle.ti_lang.specs.Program.Views.{expression_of};
 ghost use Rattle.ti_lower.specs.Receivers.{InSlot, InField, InElement};
-ghost use Rattle.ti_lower.specs.Mirrors.Positions.{where_of, source_of, target_kind, dest_of};
-ghost use Rattle.ti_lower.specs.Mirrors.Values.{operated_on, update_on, declared_on, assigned_on, into_on, spill_on, store_result_on};
+ghost use Rattle.ti_lower.specs.Mirrors.Positions.{where_of, target_kind, dest_of};
+ghost use Rattle.ti_lower.specs.Mirrors.Positions.{source_of, source_kind, source_known};
+ghost use Rattle.ti_lower.specs.Mirrors.Values.{operated_on, update_from, declared_on};
+ghost use Rattle.ti_lower.specs.Mirrors.Values.{assigned_on, into_from, spill_on, store_result_on};
 
 use crate::emit_context::{EmitContext, slot_after, with_temporary};
 use crate::targets::{StoreTarget, held_known, keep, load_variable, place, store, target_of};
 use crate::values::{StoreSource, source};
 use ti_base::{Memory, Place};
-use ti_code::{Instr, Operation};
+use ti_code::Instr;
 use ti_lang::program::{Expr, TypeUse, Variable};
 use ti_lang::tree::BinaryOperator;
 use ti_lang::typing::{TyRef, syntactic_type};
@@ -52,24 +56,34 @@ struct Updating<'a> {
     place: Place,
     /// The place of the target, at which its old value is read.
     read: Place,
-    operation: Operation,
-    /// What is known of the operator's result.
-    known: StaticRepr,
+    operator: BinaryOperator,
+    /// The kind of the target's type.
+    left: OperandClass,
+    /// What is known of the target's old value.
+    held: StaticRepr,
     /// The type of the target.
     ty: TyRef<'a>,
 }
 
-// Generates a right side, and the operator.
+// Generates a right side and the operator, and returns what is known of the operator's result.
 fn apply_operator(
     context: &EmitContext,
     update: &Updating,
     right: StoreSource,
     out: &mut Vec<Instr>,
-) -> Result<(), Memory>
-    ensures { OnOk result (out.new.items ≡ operated_on (where_of context.now) update.now.place update.now.operation (source_of right.entry) out.old.items) }
+) -> Result<StaticRepr, Memory>
+    ensures code { OnOk result (out.new.items
+        ≡ operated_on (where_of context.now) update.now.place
+        (operation update.now.operator update.now.left
+        (source_kind (where_of context.now).program (where_of context.now).this right.entry))
+        (source_of right.entry) out.old.items) }
+    ensures known { IfOk result (λ k. k ≡ operated_known update.now.operator update.now.held
+        (source_known (where_of context.now).program (where_of context.now).this right.entry)) }
 {
-    source(context, right, out)?;
-    emit(Instr::Operate(update.operation, update.place), out)
+    let value = source(context, right, out)?;
+    let operation = operation_of(update.operator, update.left, value.kind);
+    emit(Instr::Operate(operation, update.place), out)?;
+    Ok(known_of_binary(update.operator, update.held, value.known))
 }
 
 // Generates the compound assignment of a variable.
@@ -80,19 +94,15 @@ fn update_slot(
     right: StoreSource,
     out: &mut Vec<Instr>,
 ) -> Result<(), Memory>
-    ensures { OnOk result (out.new.items ≡ update_on (where_of context.now) update.now.place update.now.read update.now.operation update.now.known (ty_view update.now.ty)
-        (InSlot (variable_of variable.now)) (source_of right.entry) out.old.items) }
+    ensures { OnOk result (out.new.items
+        ≡ update_from (where_of context.now) update.now.place update.now.read update.now.operator
+        update.now.left update.now.held (ty_view update.now.ty)
+        (InSlot (variable_of variable.now)) right.entry out.old.items) }
 {
     emit(load_variable(context, variable)?, out)?;
-    apply_operator(context, update, right, out)?;
-    store(
-        context,
-        update.place,
-        update.ty,
-        update.known,
-        StoreTarget::Slot(variable),
-        out,
-    )
+    let known = apply_operator(context, update, right, out)?;
+    let target = StoreTarget::Slot(variable);
+    store(context, update.place, update.ty, known, target, out)
 }
 
 // Generates the compound assignment of a field.
@@ -103,19 +113,15 @@ fn update_field(
     right: StoreSource,
     out: &mut Vec<Instr>,
 ) -> Result<(), Memory>
-    ensures { OnOk result (out.new.items ≡ update_on (where_of context.now) update.now.place update.now.read update.now.operation update.now.known (ty_view update.now.ty)
-        (InField field) (source_of right.entry) out.old.items) }
+    ensures { OnOk result (out.new.items
+        ≡ update_from (where_of context.now) update.now.place update.now.read update.now.operator
+        update.now.left update.now.held (ty_view update.now.ty)
+        (InField field) right.entry out.old.items) }
 {
     out.extend_from_slice(&[Instr::Dup, Instr::GetField(field, update.read)])?;
-    apply_operator(context, update, right, out)?;
-    store(
-        context,
-        update.place,
-        update.ty,
-        update.known,
-        StoreTarget::Field(field),
-        out,
-    )
+    let known = apply_operator(context, update, right, out)?;
+    let target = StoreTarget::Field(field);
+    store(context, update.place, update.ty, known, target, out)
 }
 
 // Generates the compound assignment of an element, whose index is kept in a temporary slot.
@@ -125,8 +131,10 @@ fn update_element(
     right: StoreSource,
     out: &mut Vec<Instr>,
 ) -> Result<(), Memory>
-    ensures { OnOk result (out.new.items ≡ update_on (where_of context.now) update.now.place update.now.read update.now.operation update.now.known
-        (ty_view update.now.ty) InElement (source_of right.entry) out.old.items) }
+    ensures { OnOk result (out.new.items
+        ≡ update_from (where_of context.now) update.now.place update.now.read update.now.operator
+        update.now.left update.now.held (ty_view update.now.ty)
+        InElement right.entry out.old.items) }
 {
     let n = slot_after(context, 0)?;
     let m = slot_after(context, 1)?;
@@ -136,8 +144,8 @@ fn update_element(
         Instr::Load(n),
         Instr::GetElem(update.read),
     ])?;
-    apply_operator(&with_temporary(context)?, update, right, out)?;
-    add_conversion(update.place, update.ty, update.known, out)?;
+    let known = apply_operator(&with_temporary(context)?, update, right, out)?;
+    add_conversion(update.place, update.ty, known, out)?;
     out.extend_from_slice(&[
         Instr::Keep(m),
         Instr::Load(n),
@@ -156,8 +164,10 @@ fn update(
     right: StoreSource,
     out: &mut Vec<Instr>,
 ) -> Result<(), Memory>
-    ensures { OnOk result (out.new.items ≡ update_on (where_of context.now) info.now.place info.now.read info.now.operation info.now.known (ty_view info.now.ty)
-        (target_kind target.entry) (source_of right.entry) out.old.items) }
+    ensures { OnOk result (out.new.items
+        ≡ update_from (where_of context.now) info.now.place info.now.read info.now.operator
+        info.now.left info.now.held (ty_view info.now.ty)
+        (target_kind target.entry) right.entry out.old.items) }
 {
     match target {
         StoreTarget::Slot(v) => update_slot(context, info, v, right, out),
@@ -172,21 +182,20 @@ fn update_target(
     place_of: Place,
     operator: BinaryOperator,
     target: &Expr,
-    kind: OperandClass,
-    known: StaticRepr,
     right: StoreSource,
     out: &mut Vec<Instr>,
 ) -> Result<(), Memory>
-    ensures { OnOk result (out.new.items ≡ into_on (where_of context.now) (Updated place_of operator (expression_of target.now)) kind known
-        (source_of right.entry) out.old.items) }
+    ensures { OnOk result (out.new.items ≡ into_from (where_of context.now)
+        (Updated place_of operator (expression_of target.now)) right.entry out.old.items) }
 {
     let ty = syntactic_type(context.site.program, context.site.this, target);
     let written = target_of(context, target)?;
     let info = Updating {
         place: place_of,
         read: target.place(),
-        operation: operation_of(operator, kind_of_seen(ty), kind),
-        known: known_of_binary(operator, held_known(written), known),
+        operator,
+        left: kind_of_seen(ty),
+        held: held_known(written),
         ty,
     };
     place(context, target, out)?;
@@ -214,37 +223,30 @@ fn assign_target(
     context: &EmitContext,
     place_of: Place,
     target: &Expr,
-    known: StaticRepr,
     right: StoreSource,
     out: &mut Vec<Instr>,
 ) -> Result<(), Memory>
-    ensures { OnOk result (out.new.items ≡ assigned_on (where_of context.now) place_of (expression_of target.now) known
+    ensures { OnOk result (out.new.items
+        ≡ assigned_on (where_of context.now) place_of (expression_of target.now)
+        (source_known (where_of context.now).program (where_of context.now).this right.entry)
         (source_of right.entry) out.old.items) }
 {
     place(context, target, out)?;
-    source(context, right, out)?;
+    let value = source(context, right, out)?;
     let ty = syntactic_type(context.site.program, context.site.this, target);
-    store(
-        context,
-        place_of,
-        ty,
-        known,
-        target_of(context, target)?,
-        out,
-    )
+    let written = target_of(context, target)?;
+    store(context, place_of, ty, value.known, written, out)
 }
 
 /// Generates a right side and the store of its value. The reference and the index of a target come first.
 pub fn evaluate_into(
     context: &EmitContext,
     receiver: Receiver,
-    kind: OperandClass,
-    known: StaticRepr,
     right: StoreSource,
     out: &mut Vec<Instr>,
 ) -> Result<(), Memory>
-    ensures { OnOk result (out.new.items ≡ into_on (where_of context.now) (dest_of receiver.entry) kind known
-        (source_of right.entry) out.old.items) }
+    ensures { OnOk result (out.new.items
+        ≡ into_from (where_of context.now) (dest_of receiver.entry) right.entry out.old.items) }
 {
     match receiver {
         Receiver::Nowhere => {
@@ -256,17 +258,15 @@ pub fn evaluate_into(
             variable: _,
             ty,
         } => {
-            source(context, right, out)?;
-            init_variable(context, place, ty, known, out)
+            let value = source(context, right, out)?;
+            init_variable(context, place, ty, value.known, out)
         }
-        Receiver::Assigned { place, target } => assign_target(
-            context, place, target, known, right, out,
-        ),
+        Receiver::Assigned { place, target } => assign_target(context, place, target, right, out),
         Receiver::Updated {
             place,
             operator,
             target,
-        } => update_target(context, place, operator, target, kind, known, right, out),
+        } => update_target(context, place, operator, target, right, out),
     }
 }
 
@@ -280,17 +280,11 @@ fn spill_and_store(
 ) -> Result<(), Memory>
     ensures { OnOk result (out.new.items ≡ spill_on (where_of context.now) (dest_of receiver.entry) kind known out.old.items) }
 {
-    let n = slot_after(context, 0)?;
-    emit(Instr::Keep(n), out)?;
-    evaluate_into(
-        &with_temporary(context)?,
-        receiver,
-        kind,
-        known,
-        StoreSource::Temporary(n),
-        out,
-    )?;
-    emit(Instr::Trim(n), out)
+    let slot = slot_after(context, 0)?;
+    emit(Instr::Keep(slot), out)?;
+    let right = StoreSource::Temporary { slot, kind, known };
+    evaluate_into(&with_temporary(context)?, receiver, right, out)?;
+    emit(Instr::Trim(slot), out)
 }
 
 // Stores a computed value in the target of an assignment; a variable needs no spill.

@@ -1,6 +1,7 @@
 // The code of statements, by recursion over them. The target of a forward jump is reserved, and set when the code after it is reached.
 
-ghost use Rattle.std.specs.Prelude.{◌≡◌, ◌∷◌, ◌++◌, ◌+◌, [], OnOk, IfOk, Some, length, map, pos};
+ghost use Rattle.std.specs.Prelude.{◌≡◌, ◌∷◌, ◌++◌, ◌+◌, [], OnOk, IfOk, None, Some};
+ghost use Rattle.std.specs.Prelude.{length, map, pos};
 ghost use Rattle.std.specs.Option.{option_map};
 ghost use Rattle.ti_base.specs.declared.action.CollKind.TheVariants as coll;
 ghost use Rattle.ti_syntax.specs.Trees.Views.{maybe_of};
@@ -8,12 +9,12 @@ ghost use Rattle.ti_lang.specs.Program.Statements.{numbered_stms};
 ghost use Rattle.ti_lang.specs.Program.Statements as s;
 ghost use Rattle.ti_lang.specs.Program.Expressions as e;
 ghost use Rattle.ti_lang.specs.Meaning.Processes.{Updated};
-ghost use Rattle.ti_lang.specs.Program.Views.{expression_of, printed_of, statement_of, type_use_of};
-ghost use Rattle.ti_lang.specs.Meaning.Statements.{declared_as, one_more as one_more_spec};
-ghost use Rattle.ti_lower_expr.specs.Slots.{Of};
+ghost use Rattle.ti_lang.specs.Program.Views.{expression_of, initial_of, printed_of};
+ghost use Rattle.ti_lang.specs.Program.Views.{statement_of, type_use_of};
+ghost use Rattle.ti_lang.specs.Meaning.Statements.{one_more as one_more_spec};
 ghost use Rattle.ti_lower.specs.StmtCode.{break_code, continue_code};
 ghost use Rattle.ti_lower.specs.Mirrors.Bodies as on;
-ghost use Rattle.ti_lower.specs.Mirrors.Bodies.{builder_of, labels_of};
+ghost use Rattle.ti_lower.specs.Mirrors.Bodies.{builder_of, labels_of, maybe_stm_of};
 ghost use Rattle.ti_lower.specs.Mirrors.Statements.{with_code, close_branch, trim_slots};
 ghost use Rattle.ti_lower.specs.Mirrors.Positions.{where_of};
 ghost use Rattle.ti_lower.specs.Mirrors.Values.{init_on, print_on, returned_on};
@@ -26,13 +27,13 @@ use crate::builtins::expr_stmt;
 use crate::emit_context::EmitContext;
 use crate::inits::{init, value_and_store};
 use crate::receivers::Receiver;
-use crate::values::value;
+use crate::values::{known_value, value};
 use ti_base::{CollKind, Memory, Place, Value};
 use ti_code::Instr;
-use ti_lang::program::{Expr, Printed, Stmt, TypeUse};
+use ti_lang::program::{Expr, Init, Printed, Stmt, TypeUse};
 use ti_lang::tree::{BinaryOperator, StepOperator};
 use ti_lang::typing::TyRef;
-use ti_lower_expr::{SlotName, Slots, add_conversion, emit, known_of, to_u32, u32_sum};
+use ti_lower_expr::{SlotName, Slots, add_conversion, emit, to_u32, u32_sum};
 
 // ---- simple statements
 
@@ -155,23 +156,77 @@ fn return_stmt(
     match x {
         None => emit(Instr::Return, out),
         Some(x) => {
-            let known = known_of(context.site.program, context.site.this, x);
-            value(context, x, out)?;
-            add_conversion(place, result_type, known, out)?;
+            let value = known_value(context, x, out)?;
+            add_conversion(place, result_type, value.known, out)?;
             emit(Instr::ReturnValue, out)
         }
     }
 }
 
-// Adds the slot of a declared variable.
-fn declare<'p>(ty: &'p TypeUse, variable: u32, slots: &mut Slots<'p>) -> Result<(), Memory>
-    ensures { OnOk result (names_in slots.new ≡ Of (declared_as (type_use_of ty.now) variable) ∷ names_in slots.old) }
+// Generates a declaration.
+fn declaration<'p>(
+    method: &MethodEmitContext<'p>,
+    place: Place,
+    ty: &'p TypeUse,
+    variable: u32,
+    value: &'p Init,
+    builder: &mut CodeBuilder<'p>,
+) -> Result<(), Memory>
+    ensures { OnOk result (builder_of builder.new ≡ on.stm_in method.now
+        (s.Declare place (type_use_of ty.now) variable (initial_of value.now)) None
+        (builder_of builder.old)) }
 {
-    slots.push(SlotName::Of {
+    let receiver = Receiver::Declared {
+        place,
+        variable,
+        ty,
+    };
+    let context = context_of(method, &builder.slots);
+    init(&context, receiver, value, &mut builder.code)?;
+    builder.slots.push(SlotName::Of {
         number: variable,
         single: ty.single,
         ty: &ty.ty,
     })
+}
+
+// Generates an assignment.
+fn assignment<'p>(
+    method: &MethodEmitContext<'p>,
+    place: Place,
+    target: &'p Expr,
+    value: &'p Init,
+    builder: &mut CodeBuilder<'p>,
+) -> Result<(), Memory>
+    ensures { OnOk result (builder_of builder.new ≡ on.stm_in method.now
+        (s.Assign place (expression_of target.now) (initial_of value.now)) None
+        (builder_of builder.old)) }
+{
+    let receiver = Receiver::Assigned { place, target };
+    let context = context_of(method, &builder.slots);
+    init(&context, receiver, value, &mut builder.code)
+}
+
+// Generates a compound assignment.
+fn update<'p>(
+    method: &MethodEmitContext<'p>,
+    place: Place,
+    operator: BinaryOperator,
+    target: &'p Expr,
+    value: &'p Expr,
+    builder: &mut CodeBuilder<'p>,
+) -> Result<(), Memory>
+    ensures { OnOk result (builder_of builder.new ≡ on.stm_in method.now
+        (s.Update place operator (expression_of target.now) (expression_of value.now)) None
+        (builder_of builder.old)) }
+{
+    let receiver = Receiver::Updated {
+        place,
+        operator,
+        target,
+    };
+    let context = context_of(method, &builder.slots);
+    value_and_store(&context, receiver, value, &mut builder.code)
 }
 
 // ---- branches
@@ -458,6 +513,24 @@ fn block<'p>(
     builder.trim(n)
 }
 
+// Generates the head or the update of a `for`, if there is one.
+#[cycle(statement)]
+fn maybe<'p>(
+    method: &MethodEmitContext<'p>,
+    stmt: &'p Option<Box<Stmt>>,
+    labels: Option<LoopTargets>,
+    builder: &mut CodeBuilder<'p>,
+) -> Result<(), Memory>
+    ensures { OnOk result (builder_of builder.new
+        ≡ on.maybe_in method.now (maybe_stm_of stmt.now) (option_map labels_of labels)
+        (builder_of builder.old)) }
+{
+    match stmt {
+        Some(stmt) => statement(method, stmt, labels, builder),
+        None => Ok(()),
+    }
+}
+
 // Generates a statement.
 #[cycle(statement)]
 #[tactic(auto, using(ti_lang::proofs::Lemmas::program_bridges))]
@@ -476,85 +549,37 @@ fn statement<'p>(
             ty,
             variable,
             value,
-        } => {
-            let receiver = Receiver::Declared {
-                place: *place,
-                variable: *variable,
-                ty,
-            };
-            init(
-                &context_of(method, &builder.slots),
-                receiver,
-                value,
-                &mut builder.code,
-            )?;
-            declare(ty, *variable, &mut builder.slots)
-        }
+        } => declaration(method, *place, ty, *variable, value, builder),
         Stmt::Assign {
             place,
             target,
             value,
-        } => {
-            let receiver = Receiver::Assigned {
-                place: *place,
-                target,
-            };
-            init(
-                &context_of(method, &builder.slots),
-                receiver,
-                value,
-                &mut builder.code,
-            )
-        }
+        } => assignment(method, *place, target, value, builder),
         Stmt::Update {
             place,
             operator,
             target,
             value,
-        } => {
-            let receiver = Receiver::Updated {
-                place: *place,
-                operator: *operator,
-                target,
-            };
-            value_and_store(
-                &context_of(method, &builder.slots),
-                receiver,
-                value,
-                &mut builder.code,
-            )
-        }
+        } => update(method, *place, *operator, target, value, builder),
         Stmt::Step {
             place,
             operator,
             target,
         } => {
-            step(
-                &context_of(method, &builder.slots),
-                *place,
-                *operator,
-                target,
-                &mut builder.code,
-            )
+            let context = context_of(method, &builder.slots);
+            step(&context, *place, *operator, target, &mut builder.code)
         }
         Stmt::Call(e) => expr_stmt(&context_of(method, &builder.slots), e, &mut builder.code),
-        Stmt::Print(place, what) => print(
-            &context_of(method, &builder.slots),
-            *place,
-            what,
-            &mut builder.code,
-        ),
+        Stmt::Print(place, what) => {
+            let context = context_of(method, &builder.slots);
+            print(&context, *place, what, &mut builder.code)
+        }
         Stmt::Barrier(place) => barrier(*place, &mut builder.code),
         Stmt::Break(_) => break_out(labels, &builder.slots, &mut builder.code),
         Stmt::Continue(_) => continue_loop(labels, &builder.slots, &mut builder.code),
         Stmt::Return(place, value) => {
-            return_stmt(
-                &context_of(method, &builder.slots),
-                *place,
-                method.result,
-                value,
-                &mut builder.code,
-            )
+            let context = context_of(method, &builder.slots);
+            return_stmt(&context, *place, method.result, value, &mut builder.code)
         }
         Stmt::Block(xs) => block(method, xs, labels, builder),
         Stmt::If {
@@ -563,20 +588,20 @@ fn statement<'p>(
             then,
             otherwise,
         } => {
-            let k = builder.targets.len();
-            let n = builder.slots.len();
+            let label = builder.targets.len();
+            let slots = builder.slots.len();
             test(method, condition, builder)?;
             match otherwise {
                 None => {
                     statement(method, then, labels, builder)?;
-                    builder.close(k, n)
+                    builder.close(label, slots)
                 }
-                Some(other) => {
+                Some(otherwise) => {
                     builder.new_label()?;
                     statement(method, then, labels, builder)?;
-                    between_branches(method, k, n, builder)?;
-                    statement(method, other, labels, builder)?;
-                    builder.close(usize_sum(k, 1)?, n)
+                    between_branches(method, label, slots, builder)?;
+                    statement(method, otherwise, labels, builder)?;
+                    builder.close(usize_sum(label, 1)?, slots)
                 }
             }
         }
@@ -585,8 +610,8 @@ fn statement<'p>(
             condition,
             body,
         } => {
-            let t = turn(method, *place, body, builder)?;
-            close_loop(method, &t, Some(condition), builder)
+            let start = turn(method, *place, body, builder)?;
+            close_loop(method, &start, Some(condition), builder)
         }
         Stmt::For {
             place,
@@ -595,33 +620,11 @@ fn statement<'p>(
             update,
             body,
         } => {
-            let n = builder.slots.len();
-            match first {
-                Some(first) => match update {
-                    Some(update) => {
-                        statement(method, first, labels, builder)?;
-                        let t = turn(method, *place, body, builder)?;
-                        statement(method, update, labels, builder)?;
-                        close_for(method, &t, condition, n, builder)
-                    }
-                    None => {
-                        statement(method, first, labels, builder)?;
-                        let t = turn(method, *place, body, builder)?;
-                        close_for(method, &t, condition, n, builder)
-                    }
-                },
-                None => match update {
-                    Some(update) => {
-                        let t = turn(method, *place, body, builder)?;
-                        statement(method, update, labels, builder)?;
-                        close_for(method, &t, condition, n, builder)
-                    }
-                    None => {
-                        let t = turn(method, *place, body, builder)?;
-                        close_for(method, &t, condition, n, builder)
-                    }
-                },
-            }
+            let slots = builder.slots.len();
+            maybe(method, first, labels, builder)?;
+            let start = turn(method, *place, body, builder)?;
+            maybe(method, update, labels, builder)?;
+            close_for(method, &start, condition, slots, builder)
         }
         Stmt::Foreach {
             place,
@@ -629,11 +632,8 @@ fn statement<'p>(
             domain,
             body,
         } => {
-            value(
-                &context_of(method, &builder.slots),
-                domain,
-                &mut builder.code,
-            )?;
+            let context = context_of(method, &builder.slots);
+            value(&context, domain, &mut builder.code)?;
             foreach(method, *place, *variable, body, builder)
         }
     }

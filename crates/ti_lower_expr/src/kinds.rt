@@ -3,16 +3,16 @@
 
 ghost use Rattle.std.specs.Prelude.{◌≡◌, option_map, Some};
 ghost use Rattle.ti_syntax.specs.declared.tree.exprs.BinaryOperator.TheVariants as op;
-ghost use Rattle.ti_lang.specs.Program.Views.{program_of, expression_of, value_type_of, declared_of};
+ghost use Rattle.ti_lang.specs.Program.Views.{value_type_of, declared_of};
 ghost use Rattle.ti_lang.specs.Typing.Kinds.{is_point_type as is_point_spec};
 ghost use Rattle.ti_lang.specs.Typing.TyRef.{ty_view, built_in_of};
 ghost use Rattle.ti_lower_expr.specs.Coding as coding;
 ghost use Rattle.ti_lower_expr.specs.Knowing as knowing;
 
 use ti_code::{Operation, ValueMember};
-use ti_lang::program::{Declared, Expr, ProgramData, Ty};
+use ti_lang::program::{Declared, Ty};
 use ti_lang::tree::{BinaryOperator, UnaryOperator};
-use ti_lang::typing::{BuiltIn, TyRef, member_called, syntactic_type};
+use ti_lang::typing::{BuiltIn, TyRef};
 
 /// The kind of a type, as far as the names of operators depend on it.
 #[derive(Clone, Copy)]
@@ -77,13 +77,6 @@ pub fn kind_of_seen(ty: TyRef) -> OperandClass
         TyRef::Dm(_) => OperandClass::Domains,
         _ => OperandClass::Numbers,
     }
-}
-
-/// The kind of an expression's static type, in a method of the class `this`, if it has one.
-pub fn kind_in(program: &ProgramData, this: Option<u32>, expr: &Expr) -> OperandClass
-    ensures { result ≡ coding.kind_in (program_of program.now) this (expression_of expr.now) }
-{
-    kind_of_seen(syntactic_type(program, this, expr))
 }
 
 // The name of `+`.
@@ -185,8 +178,8 @@ pub fn shown_member(called: Option<BuiltIn>) -> Option<ValueMember>
 
 // ---- what is statically known of values
 
-// What is known of each value that has been converted to a type.
-fn known_of_type(ty: &Ty) -> StaticRepr
+/// What is known of each value that has been converted to a type.
+pub fn known_of_type(ty: &Ty) -> StaticRepr
     ensures { result ≡ knowing.known_of_type (value_type_of ty.now) }
 {
     match ty {
@@ -333,45 +326,5 @@ pub fn is_point(ty: TyRef) -> bool
     match ty {
         TyRef::Pt(_) => true,
         _ => false,
-    }
-}
-
-/// What is known of the value of an expression, in a method of the class `this`, if it has one.
-pub fn known_of(program: &ProgramData, this: Option<u32>, expr: &Expr) -> StaticRepr
-    ensures { result ≡ knowing.known_of (program_of program.now) this (expression_of expr.now) }
-{
-    match expr {
-        Expr::Int(_, _) | Expr::ThisProc(_) | Expr::NumProcs(_) => StaticRepr::Int,
-        Expr::Long(_, _) => StaticRepr::Long,
-        Expr::Null(_) | Expr::This(_) => StaticRepr::Object,
-        Expr::Variable(_, v) => known_declared(&v.declared),
-        Expr::Unary {
-            operator,
-            operand,
-            ..
-        } => known_of_unary(*operator, known_of(program, this, operand)),
-        Expr::Binary {
-            operator,
-            left,
-            right,
-            ..
-        } => {
-            let first = known_of(program, this, left);
-            known_of_binary(*operator, first, known_of(program, this, right))
-        }
-        Expr::Cast { to, .. } => known_of_type(&to.ty),
-        Expr::Member { receiver, name, .. } => {
-            known_member(member_called(program, this, receiver, *name))
-        }
-        Expr::Index { receiver, .. } => known_indexed(is_point(syntactic_type(
-            program, this, receiver,
-        ))),
-        Expr::Bool(_, _)
-        | Expr::OwnField(_, _)
-        | Expr::Point(_, _)
-        | Expr::Rect(_, _)
-        | Expr::Select { .. }
-        | Expr::Call { .. }
-        | Expr::OwnCall { .. } => StaticRepr::Other,
     }
 }

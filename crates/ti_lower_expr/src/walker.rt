@@ -1,5 +1,5 @@
 // Generates the code of an expression by recursion over it. What is statically known of its value is returned, so that each part is visited
-// once. Callers of `lower_expr` get only the code: to know the value's type, they compute it again.
+// once.
 
 ghost use Rattle.std.specs.Prelude.{◌≡◌, ◌∷◌, ◌++◌, [], OnOk, OnErr, IfOk, take, map, option_map, option_and_then, unwrap_or};
 ghost use Rattle.ti_base.specs.declared.value.Value.TheVariants as v;
@@ -9,6 +9,7 @@ ghost use Rattle.ti_lang.specs.Program.Expressions as x;
 ghost use Rattle.ti_lang.specs.Program.Types.{Int as IntType};
 ghost use Rattle.ti_lang.specs.Typing.TextTypes.{how_many, used_type as used_spec, static_field_type as field_spec, static_member_type as member_spec, static_element_type as element_spec};
 ghost use Rattle.ti_lang.specs.Program.Views.{program_of, expression_of, bound_of, variable_of};
+ghost use Rattle.ti_lang.specs.Program.Views.{type_use_of};
 ghost use Rattle.ti_lang.specs.Typing.TyRef.{ty_view, built_in_of};
 ghost use Rattle.ti_lang.specs.Typing.Declared.{field_numbered};
 ghost use Rattle.ti_lang.specs.Typing.Kinds.{is_point_type as is_point_spec, class_of_type};
@@ -27,13 +28,13 @@ use crate::emission::{
 };
 use crate::fields::resolve_field;
 use crate::kinds::{
-    OperandClass, ShortCircuit, StaticRepr, is_point, kind_in, kind_of_seen, known_declared,
-    known_indexed, known_member, known_of, known_of_binary, known_of_unary, operation_of,
-    short_circuit_of, shown_member,
+    OperandClass, ShortCircuit, StaticRepr, is_point, kind_of_seen, known_declared, known_indexed,
+    known_member, known_of_binary, known_of_type, known_of_unary, operation_of, short_circuit_of,
+    shown_member,
 };
 use ti_base::{Memory, Place, Value};
 use ti_code::Instr;
-use ti_lang::program::{Declared, Expr, Range, Variable};
+use ti_lang::program::{Declared, Expr, Range, TypeUse, Variable};
 use ti_lang::tree::BinaryOperator;
 use ti_lang::typing::{
     BuiltIn, TyRef, built_in, operator_type, static_element_type, static_field_type,
@@ -52,17 +53,18 @@ fn used_type<'a>(variable: &'a Variable) -> TyRef<'a>
     }
 }
 
-// What is statically known of the value of an expression, computed on its own.
+// What is statically known of the value of an expression: its type, and which conversions are idle.
 fn static_value<'context, 'a>(
     context: &LoweringContext<'context, 'a>,
     expr: &'a Expr,
+    known: StaticRepr,
 ) -> StaticValue<'a>
     ensures ty { ty_view result.ty ≡ type_in context.now (expression_of expr.now) }
-    ensures known { result.known ≡ known_in context.now (expression_of expr.now) }
+    ensures known { result.known ≡ known }
 {
     StaticValue {
         ty: syntactic_type(context.program, context.this, expr),
-        known: known_of(context.program, context.this, expr),
+        known,
     }
 }
 
@@ -85,31 +87,30 @@ fn kind_of_ranges(context: &LoweringContext, ranges: &[Range]) -> OperandClass
         return OperandClass::Numbers;
     }
     match &ranges[0] {
-        Range::Plain { low, high: _ } => kind_in(context.program, context.this, low),
-        Range::Stepped {
-            low,
-            high: _,
-            step: _,
-        } => kind_in(context.program, context.this, low),
+        Range::Plain { low, .. } | Range::Stepped { low, .. } => {
+            kind_of_seen(syntactic_type(context.program, context.this, low))
+        }
     }
 }
 
 // ---- parts
 
 // Generates an expression of one instruction.
+#[inline(never)]
 fn leaf<'context, 'a>(
     context: &LoweringContext<'context, 'a>,
     expr: &'a Expr,
+    known: StaticRepr,
     instr: Instr,
     out: &mut Vec<Instr>,
 ) -> Result<StaticValue<'a>, Memory>
     ensures code { OnOk result (out.new.items ≡ out.old.items ++ instr ∷ []) }
     ensures ty { IfOk result (λ t. ty_view t.ty ≡ type_in context.now (expression_of expr.now)) }
-    ensures known { IfOk result (λ t. t.known ≡ known_in context.now (expression_of expr.now)) }
+    ensures known { IfOk result (λ t. t.known ≡ known) }
     ensures err { OnErr result (BeginsWith out.new.items out.old.items) }
 {
     emit(instr, out)?;
-    Ok(static_value(context, expr))
+    Ok(static_value(context, expr, known))
 }
 
 // Appends the instruction that makes the rectangular domain of its ranges.
@@ -253,91 +254,6 @@ fn walk_ranges<'context, 'a>(
 
 // ---- expressions
 
-// Generates the access to a field of an object, after the object.
-fn field<'context, 'a>(
-    context: &LoweringContext<'context, 'a>,
-    place: Place,
-    receiver: TyRef<'a>,
-    name: u32,
-    out: &mut Vec<Instr>,
-) -> Result<StaticValue<'a>, Memory>
-    ensures code { OnOk result (out.new.items ≡ out.old.items ++ i.GetField
-        (unwrap_or (option_and_then (field_numbered (program_of context.now.program.now) name) (class_of_type (ty_view receiver.entry))) 0) place
-        ∷ []) }
-    ensures ty { IfOk result (λ t. ty_view t.ty ≡ field_spec (program_of context.now.program.now) name (ty_view receiver.entry)) }
-    ensures known { IfOk result (λ t. t.known ≡ known.Other) }
-    ensures err { OnErr result (BeginsWith out.new.items out.old.items) }
-{
-    emit(
-        Instr::GetField(resolve_field(context.program, receiver, name)?, place),
-        out,
-    )?;
-    Ok(StaticValue {
-        ty: static_field_type(context.program, name, receiver),
-        known: StaticRepr::Other,
-    })
-}
-
-// Generates the call of a built-in member, after its receiver and its arguments.
-#[tactic(auto, using(ti_lang::proofs::Lemmas::many_arguments))]
-fn member<'context, 'a>(
-    context: &LoweringContext<'context, 'a>,
-    place: Place,
-    receiver: TyRef<'a>,
-    name: u32,
-    args: &[Expr],
-    out: &mut Vec<Instr>,
-) -> Result<StaticValue<'a>, Memory>
-    ensures code { OnOk result (out.new.items ≡ out.old.items ++ coding.member_code (called_behind context.now (ty_view receiver.entry) name)
-        (how_many (numbered_exps (map expression_of args.now))) place) }
-    ensures ty { IfOk result (λ t. ty_view t.ty ≡ member_spec (program_of context.now.program.now) name (ty_view receiver.entry)) }
-    ensures known { IfOk result (λ t. t.known ≡ knowing.member_known (called_behind context.now (ty_view receiver.entry) name)) }
-    ensures err { OnErr result (BeginsWith out.new.items out.old.items) }
-{
-    let called = called_member(context, receiver, name);
-    add_member(shown_member(called), args.len(), place, out)?;
-    Ok(StaticValue {
-        ty: static_member_type(context.program, name, receiver),
-        known: known_member(called),
-    })
-}
-
-// Generates an indexing, after the point or the grid and its indices.
-#[tactic(auto, using(ti_lang::proofs::Lemmas::many_arguments))]
-fn index<'a>(
-    place: Place,
-    receiver: TyRef<'a>,
-    indices: &[Expr],
-    out: &mut Vec<Instr>,
-) -> Result<StaticValue<'a>, Memory>
-    ensures code { OnOk result (out.new.items ≡ out.old.items ++ coding.index_code (is_point_spec (ty_view receiver.entry))
-        (how_many (numbered_exps (map expression_of indices.now))) place) }
-    ensures ty { IfOk result (λ t. ty_view t.ty ≡ element_spec (ty_view receiver.entry)) }
-    ensures known { IfOk result (λ t. t.known ≡ knowing.index_known (is_point_spec (ty_view receiver.entry))) }
-    ensures err { OnErr result (BeginsWith out.new.items out.old.items) }
-{
-    let coordinate = is_point(receiver);
-    add_index(coordinate, indices.len(), place, out)?;
-    Ok(StaticValue {
-        ty: static_element_type(receiver),
-        known: known_indexed(coordinate),
-    })
-}
-
-// Generates an int.
-fn number<'a>(value: i32, out: &mut Vec<Instr>) -> Result<StaticValue<'a>, Memory>
-    ensures code { OnOk result (out.new.items ≡ out.old.items ++ i.Const (v.Int value) ∷ []) }
-    ensures ty { IfOk result (λ t. ty_view t.ty ≡ IntType) }
-    ensures known { IfOk result (λ t. t.known ≡ known.Int) }
-    ensures err { OnErr result (BeginsWith out.new.items out.old.items) }
-{
-    emit(Instr::Const(Value::Int(value)), out)?;
-    Ok(StaticValue {
-        ty: TyRef::Int,
-        known: StaticRepr::Int,
-    })
-}
-
 // Generates a variable.
 fn load<'context, 'a>(
     context: &LoweringContext<'context, 'a>,
@@ -357,8 +273,137 @@ fn load<'context, 'a>(
     })
 }
 
-/// Generates an expression and returns what is statically known of its value. The commonest forms are handled here, so that they don't pay
-/// for the large stack frame of the others.
+// Generates a cast.
+#[cycle(walk)]
+#[inline(never)]
+fn cast<'context, 'a>(
+    context: &LoweringContext<'context, 'a>,
+    place: Place,
+    to: &'a TypeUse,
+    operand: &'a Expr,
+    out: &mut Vec<Instr>,
+) -> Result<StaticValue<'a>, Memory>
+    ensures code { OnOk result (out.new.items ≡ walked_in context.now
+        (x.Cast place (type_use_of to.now) (expression_of operand.now)) out.old.items) }
+    ensures ty { IfOk result (λ t. ty_view t.ty ≡ type_in context.now
+        (x.Cast place (type_use_of to.now) (expression_of operand.now))) }
+    ensures known { IfOk result (λ t. t.known ≡ known_in context.now
+        (x.Cast place (type_use_of to.now) (expression_of operand.now))) }
+    ensures err { OnErr result (BeginsWith out.new.items out.old.items) }
+{
+    let t = walk(context, operand, out)?;
+    add_cast(place, &to.ty, t.known, out)?;
+    Ok(StaticValue {
+        ty: TyRef::of(&to.ty, false),
+        known: known_of_type(&to.ty),
+    })
+}
+
+// Generates the access to a field of an object.
+#[cycle(walk)]
+#[inline(never)]
+fn select<'context, 'a>(
+    context: &LoweringContext<'context, 'a>,
+    place: Place,
+    receiver: &'a Expr,
+    name: u32,
+    out: &mut Vec<Instr>,
+) -> Result<StaticValue<'a>, Memory>
+    ensures code { OnOk result (out.new.items ≡ walked_in context.now
+        (x.Select place (expression_of receiver.now) name) out.old.items) }
+    ensures ty { IfOk result (λ t. ty_view t.ty ≡ type_in context.now
+        (x.Select place (expression_of receiver.now) name)) }
+    ensures known { IfOk result (λ t. t.known ≡ known_in context.now
+        (x.Select place (expression_of receiver.now) name)) }
+    ensures err { OnErr result (BeginsWith out.new.items out.old.items) }
+{
+    let t = walk(context, receiver, out)?;
+    let field = resolve_field(context.program, t.ty, name)?;
+    emit(Instr::GetField(field, place), out)?;
+    Ok(StaticValue {
+        ty: static_field_type(context.program, name, t.ty),
+        known: StaticRepr::Other,
+    })
+}
+
+// Generates the call of a built-in member, after its receiver.
+#[cycle(walk)]
+#[inline(never)]
+#[tactic(auto, using(ti_lang::proofs::Lemmas::many_arguments))]
+fn member<'context, 'a>(
+    context: &LoweringContext<'context, 'a>,
+    place: Place,
+    receiver: TyRef<'a>,
+    name: u32,
+    args: &'a [Expr],
+    out: &mut Vec<Instr>,
+) -> Result<StaticValue<'a>, Memory>
+    ensures code { OnOk result (out.new.items
+        ≡ all_in context.now (numbered_exps (map expression_of args.now)) out.old.items
+        ++ coding.member_code (called_behind context.now (ty_view receiver.entry) name)
+        (how_many (numbered_exps (map expression_of args.now))) place) }
+    ensures ty { IfOk result (λ t. ty_view t.ty
+        ≡ member_spec (program_of context.now.program.now) name (ty_view receiver.entry)) }
+    ensures known { IfOk result (λ t. t.known
+        ≡ knowing.member_known (called_behind context.now (ty_view receiver.entry) name)) }
+    ensures err { OnErr result (BeginsWith out.new.items out.old.items) }
+{
+    walk_all(context, args, out)?;
+    let called = called_member(context, receiver, name);
+    add_member(shown_member(called), args.len(), place, out)?;
+    Ok(StaticValue {
+        ty: static_member_type(context.program, name, receiver),
+        known: known_member(called),
+    })
+}
+
+// Generates an indexing, after the point or the grid.
+#[cycle(walk)]
+#[inline(never)]
+#[tactic(auto, using(ti_lang::proofs::Lemmas::many_arguments))]
+fn index<'context, 'a>(
+    context: &LoweringContext<'context, 'a>,
+    place: Place,
+    receiver: TyRef<'a>,
+    indices: &'a [Expr],
+    out: &mut Vec<Instr>,
+) -> Result<StaticValue<'a>, Memory>
+    ensures code { OnOk result (out.new.items
+        ≡ all_in context.now (numbered_exps (map expression_of indices.now)) out.old.items
+        ++ coding.index_code (is_point_spec (ty_view receiver.entry))
+        (how_many (numbered_exps (map expression_of indices.now))) place) }
+    ensures ty { IfOk result (λ t. ty_view t.ty ≡ element_spec (ty_view receiver.entry)) }
+    ensures known { IfOk result (λ t. t.known ≡ knowing.index_known (is_point_spec (ty_view receiver.entry))) }
+    ensures err { OnErr result (BeginsWith out.new.items out.old.items) }
+{
+    walk_all(context, indices, out)?;
+    let coordinate = is_point(receiver);
+    add_index(coordinate, indices.len(), place, out)?;
+    Ok(StaticValue {
+        ty: static_element_type(receiver),
+        known: known_indexed(coordinate),
+    })
+}
+
+/// Generates the rectangular domain of ranges.
+#[cycle(walk)]
+#[inline(never)]
+pub fn walk_rect<'context, 'a>(
+    context: &LoweringContext<'context, 'a>,
+    place: Place,
+    ranges: &'a [Range],
+    out: &mut Vec<Instr>,
+) -> Result<(), Memory>
+    ensures code { OnOk result (out.new.items ≡ walked_in context.now
+        (x.rect place (map bound_of ranges.now)) out.old.items) }
+    ensures err { OnErr result (BeginsWith out.new.items out.old.items) }
+{
+    walk_ranges(context, ranges, out)?;
+    add_rect(context, place, ranges, out)
+}
+
+/// Generates an expression and returns what is statically known of its value. The rarer forms are
+/// functions of their own, so that a chain of operators doesn't pay for their stack frames.
 #[cycle(walk)]
 #[tactic(auto, using(ti_lang::proofs::Lemmas::program_bridges))]
 pub fn walk<'context, 'a>(
@@ -373,72 +418,55 @@ pub fn walk<'context, 'a>(
 {
     match expr {
         Expr::Variable(_, v) => load(context, v, out),
-        Expr::Int(_, n) => number(*n, out),
-        Expr::Binary {
-            place,
-            operator,
-            left,
-            right,
-        } => {
-            let first = walk(context, left, out)?;
-            let second = append_operator(context, *operator, *place, first.ty, right, out)?;
-            Ok(StaticValue {
-                ty: operator_type(*operator, first.ty, second.ty),
-                known: known_of_binary(*operator, first.known, second.known),
-            })
-        }
-        Expr::Unary {
-            place: _,
-            operator,
-            operand,
-        } => {
-            let t = walk(context, operand, out)?;
-            add_unary(*operator, out)?;
-            Ok(StaticValue {
-                ty: t.ty,
-                known: known_of_unary(*operator, t.known),
-            })
-        }
-        _ => form(context, expr, out),
-    }
-}
-
-// Generates an expression of any form.
-#[cycle(walk)]
-#[inline(never)]
-#[tactic(auto, using(ti_lang::proofs::Lemmas::program_bridges))]
-fn form<'context, 'a>(
-    context: &LoweringContext<'context, 'a>,
-    expr: &'a Expr,
-    out: &mut Vec<Instr>,
-) -> Result<StaticValue<'a>, Memory>
-    ensures code { OnOk result (out.new.items ≡ walked_in context.now (expression_of expr.now) out.old.items) }
-    ensures ty { IfOk result (λ t. ty_view t.ty ≡ type_in context.now (expression_of expr.now)) }
-    ensures known { IfOk result (λ t. t.known ≡ known_in context.now (expression_of expr.now)) }
-    ensures err { OnErr result (BeginsWith out.new.items out.old.items) }
-{
-    match expr {
-        Expr::Int(_, n) => number(*n, out),
-        Expr::Long(_, n) => leaf(context, expr, Instr::Const(Value::Long(*n)), out),
-        Expr::Bool(_, b) => leaf(context, expr, Instr::Const(Value::Bool(*b)), out),
-        Expr::Null(_) => leaf(context, expr, Instr::Const(Value::Obj(None)), out),
-        Expr::This(_) => leaf(context, expr, load_this(context.slots), out),
-        Expr::Variable(_, v) => load(context, v, out),
+        Expr::Int(_, n) => leaf(
+            context,
+            expr,
+            StaticRepr::Int,
+            Instr::Const(Value::Int(*n)),
+            out,
+        ),
+        Expr::Long(_, n) => leaf(
+            context,
+            expr,
+            StaticRepr::Long,
+            Instr::Const(Value::Long(*n)),
+            out,
+        ),
+        Expr::Bool(_, b) => leaf(
+            context,
+            expr,
+            StaticRepr::Other,
+            Instr::Const(Value::Bool(*b)),
+            out,
+        ),
+        Expr::Null(_) => leaf(
+            context,
+            expr,
+            StaticRepr::Object,
+            Instr::Const(Value::Obj(None)),
+            out,
+        ),
+        Expr::This(_) => leaf(
+            context,
+            expr,
+            StaticRepr::Object,
+            load_this(context.slots),
+            out,
+        ),
+        Expr::ThisProc(_) => leaf(context, expr, StaticRepr::Int, Instr::ThisProc, out),
+        Expr::NumProcs(_) => leaf(context, expr, StaticRepr::Int, Instr::NumProcs, out),
         Expr::OwnField(place, field) => {
             own_field(context, *place, *field, out)?;
-            Ok(static_value(context, expr))
+            Ok(static_value(context, expr, StaticRepr::Other))
         }
-        Expr::ThisProc(_) => leaf(context, expr, Instr::ThisProc, out),
-        Expr::NumProcs(_) => leaf(context, expr, Instr::NumProcs, out),
         Expr::Point(_, parts) => {
             walk_all(context, parts, out)?;
             add_point(parts, out)?;
-            Ok(static_value(context, expr))
+            Ok(static_value(context, expr, StaticRepr::Other))
         }
         Expr::Rect(place, ranges) => {
-            walk_ranges(context, ranges, out)?;
-            add_rect(context, *place, ranges, out)?;
-            Ok(static_value(context, expr))
+            walk_rect(context, *place, ranges, out)?;
+            Ok(static_value(context, expr, StaticRepr::Other))
         }
         Expr::Unary {
             place: _,
@@ -465,19 +493,12 @@ fn form<'context, 'a>(
                 known: known_of_binary(*operator, first.known, second.known),
             })
         }
-        Expr::Cast { place, to, operand } => {
-            let t = walk(context, operand, out)?;
-            add_cast(*place, &to.ty, t.known, out)?;
-            Ok(static_value(context, expr))
-        }
+        Expr::Cast { place, to, operand } => cast(context, *place, to, operand, out),
         Expr::Select {
             place,
             receiver,
             name,
-        } => {
-            let t = walk(context, receiver, out)?;
-            field(context, *place, t.ty, *name, out)
-        }
+        } => select(context, *place, receiver, *name, out),
         Expr::Member {
             place,
             receiver,
@@ -485,7 +506,6 @@ fn form<'context, 'a>(
             args,
         } => {
             let t = walk(context, receiver, out)?;
-            walk_all(context, args, out)?;
             member(context, *place, t.ty, *name, args, out)
         }
         Expr::Index {
@@ -494,24 +514,14 @@ fn form<'context, 'a>(
             indices,
         } => {
             let t = walk(context, receiver, out)?;
-            walk_all(context, indices, out)?;
-            index(*place, t.ty, indices, out)
+            index(context, *place, t.ty, indices, out)
         }
-        Expr::Call { .. } => leaf(context, expr, Instr::Const(Value::Bool(false)), out),
-        Expr::OwnCall { .. } => leaf(context, expr, Instr::Const(Value::Bool(false)), out),
+        Expr::Call { .. } | Expr::OwnCall { .. } => leaf(
+            context,
+            expr,
+            StaticRepr::Other,
+            Instr::Const(Value::Bool(false)),
+            out,
+        ),
     }
-}
-
-/// Generates the rectangular domain of ranges.
-pub fn walk_rect<'context, 'a>(
-    context: &LoweringContext<'context, 'a>,
-    place: Place,
-    ranges: &'a [Range],
-    out: &mut Vec<Instr>,
-) -> Result<(), Memory>
-    ensures code { OnOk result (out.new.items ≡ walked_in context.now (x.rect place (map bound_of ranges.now)) out.old.items) }
-    ensures err { OnErr result (BeginsWith out.new.items out.old.items) }
-{
-    walk_ranges(context, ranges, out)?;
-    add_rect(context, place, ranges, out)
 }

@@ -1,9 +1,13 @@
 -- What contracts see of the code of a method as far as it is generated, and how the functions that generate statements extend it.
-use Rattle.std.specs.Prelude.{ℕ, List, Option}
+use Rattle.std.specs.Prelude.{ℕ, List, Option, None, Some}
+use Rattle.std.specs.declared.boxed.Box.{Box}
+use Rattle.std.specs.declared.alloc.Global.{Global}
 use Rattle.ti_base.specs.declared.place.Place.{Place}
+use Rattle.ti_lang.specs.declared.program.stmts.Stmt.{Stmt}
 use Rattle.ti_lang.specs.Program.Expressions.{NumberedExp}
 use Rattle.ti_lang.specs.Program.Statements.{NumberedStm, NumberedStms}
-use Rattle.ti_lang.specs.Program.Views.{program_of}
+use Rattle.ti_lang.specs.Program.Statements.{MaybeNumbered, NoStm, SomeStm}
+use Rattle.ti_lang.specs.Program.Views.{program_of, statement_of}
 use Rattle.ti_lang.specs.Typing.TyRef.{ty_view}
 use Rattle.ti_code.specs.declared.instr.Instr.{Instr}
 use Rattle.ti_lower_expr.specs.Contents.{names_in}
@@ -19,6 +23,11 @@ builder_of w = record { names = names_in w.slots; code = w.code.items; targets =
 
 abbrev pub labels_of : LoopTargets → laying.LoopTargets
 labels_of l = record { again = l.continue_to; kept = l.continue_slots; exit = l.break_to; left = l.break_slots; walks = l.over_points }
+
+-- The head or the update of a `for`.
+abbrev pub maybe_stm_of : Option (Box Stmt Global) → MaybeNumbered
+maybe_stm_of None = NoStm
+maybe_stm_of (Some x) = SomeStm (statement_of x.value)
 
 module _ (b : MethodEmitContext) where
   abbrev pub where_in : on.CodeBuilder → Where
@@ -65,3 +74,6 @@ module _ (b : MethodEmitContext) where
 
   abbrev pub stms_in : NumberedStms → Option laying.LoopTargets → on.CodeBuilder → on.CodeBuilder
   stms_in = on.stms_on (program_of b.program.now) b.this (ty_view b.result) b.label_targets.now
+
+  abbrev pub maybe_in : MaybeNumbered → Option laying.LoopTargets → on.CodeBuilder → on.CodeBuilder
+  maybe_in = on.maybe_on (program_of b.program.now) b.this (ty_view b.result) b.label_targets.now

@@ -9,6 +9,10 @@ use Rattle.ti_lang.specs.Meaning.Processes as to
 use Rattle.ti_lang.specs.Meaning.Statements.{declared_as}
 use Rattle.ti_lower_expr.specs.Slots.{Name, Hidden}
 use Rattle.ti_lower_expr.specs.Contents.{names_in}
+use Rattle.ti_lower_expr.specs.declared.kinds.OperandClass.{OperandClass}
+use Rattle.ti_lower_expr.specs.declared.kinds.StaticRepr.{StaticRepr}
+use Rattle.ti_lower_expr.specs.Coding.{kind_in}
+use Rattle.ti_lower_expr.specs.Knowing.{known_of}
 use Rattle.ti_lower.specs.declared.emit_context.EmitContext.{EmitContext}
 use Rattle.ti_lower.specs.declared.values.StoreSource.{StoreSource}
 use Rattle.ti_lower.specs.declared.values.StoreSource.TheVariants as right
@@ -47,7 +51,16 @@ pub data Source : Type 0 where
 
 abbrev pub source_of : StoreSource → Source
 source_of (right.Value x) = Computed (expression_of x.now)
-source_of (right.Temporary k) = Kept k
+source_of (right.Temporary slot kind k) = Kept slot
+
+-- The kind of a right side's type, and what is known of its value.
+abbrev pub source_kind : ProgramView → Option ℕ → StoreSource → OperandClass
+source_kind program this (right.Value x) = kind_in program this (expression_of x.now)
+source_kind program this (right.Temporary slot kind k) = kind
+
+abbrev pub source_known : ProgramView → Option ℕ → StoreSource → StaticRepr
+source_known program this (right.Value x) = known_of program this (expression_of x.now)
+source_known program this (right.Temporary slot kind k) = k
 
 abbrev pub target_kind : StoreTarget → TargetKind
 target_kind (target.Slot v) = InSlot (variable_of v.now)

@@ -3,6 +3,7 @@ use Rattle.std.specs.Prelude.{ℕ, ◌+◌, Bool, true, false, List, [], ◌∷�
 use Rattle.ti_base.specs.declared.place.Place.{Place}
 use Rattle.ti_base.specs.declared.action.CollKind.TheVariants as coll
 use Rattle.ti_base.specs.declared.value.Value.TheVariants as v
+use Rattle.ti_syntax.specs.declared.tree.exprs.BinaryOperator.{BinaryOperator}
 use Rattle.ti_lang.specs.Program.Types.{ValueType, VariableUse}
 use Rattle.ti_lang.specs.Program.Expressions.{NumberedExp, NumberedExps, numbered_ranges, place_of_numbered}
 use Rattle.ti_lang.specs.Program.Expressions as e
@@ -27,11 +28,14 @@ use Rattle.ti_lower_expr.specs.declared.kinds.OperandClass.TheVariants.{Numbers}
 use Rattle.ti_lower_expr.specs.declared.kinds.StaticRepr.{StaticRepr}
 use Rattle.ti_lower_expr.specs.declared.kinds.StaticRepr.TheVariants as known
 use Rattle.ti_lower_expr.specs.Knowing.{known_of, operated_known}
-use Rattle.ti_lower_expr.specs.Coding.{code_of, conversion, load_variable, load_this, kind_in}
+use Rattle.ti_lower_expr.specs.Coding.{code_of, conversion, operation}
+use Rattle.ti_lower_expr.specs.Coding.{load_variable, load_this, kind_in}
 use Rattle.ti_lower.specs.Calling.{number_called}
 use Rattle.ti_lower.specs.Receivers.{TargetKind, InSlot, InField, InElement, written_slot, keep_code, store_code, held_known, updating, kind_of_target}
 use Rattle.ti_lower.specs.StmtCode.{as_element, first_code, elements_code, copied_code, taken_code, grids_code, team_code, gives_nothing}
+use Rattle.ti_lower.specs.declared.values.StoreSource.{StoreSource}
 use Rattle.ti_lower.specs.Mirrors.Positions.{Where, Source, Computed, Kept, with_temporary}
+use Rattle.ti_lower.specs.Mirrors.Positions.{source_of, source_kind, source_known}
 
 -- ---- expressions
 
@@ -93,6 +97,19 @@ into_on w (Updated p op target) kind k right code =
     update_on w p (place_of_numbered target) (updating w.program w.this op target kind)
     (operated_known op (held_known (kind_of_target w.program w.this target)) k) (syntactic_type w.program w.this target)
     (kind_of_target w.program w.this target) right (place_on w target code)
+
+-- The same from a right side of the code: what is known of it follows from the source.
+abbrev pub update_from : Where → Place → Place → BinaryOperator → OperandClass → StaticRepr
+    → ValueType → TargetKind → StoreSource → List Instr → List Instr
+update_from w p q op left held type target right code =
+    update_on w p q (operation op left (source_kind w.program w.this right))
+    (operated_known op held (source_known w.program w.this right)) type target (source_of right)
+    code
+
+abbrev pub into_from : Where → Receiver → StoreSource → List Instr → List Instr
+into_from w r right code =
+    into_on w r (source_kind w.program w.this right) (source_known w.program w.this right)
+    (source_of right) code
 
 abbrev pub spill_on : Where → Receiver → OperandClass → StaticRepr → List Instr → List Instr
 spill_on w r kind k code =

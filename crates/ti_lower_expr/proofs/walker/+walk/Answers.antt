@@ -1,76 +1,23 @@
-use Rattle.std.proofs.Common.{◌≡◌, ◌∙◌, refl, sym, ap, subst, ◌+◌, ◌++◌, ◌∷◌, [], List, map, length, take, drop, get_or, ℕ, arith, OnOk}
+use Rattle.std.proofs.Common.{◌≡◌, ◌∙◌, refl, sym, ap, subst, ◌+◌, ◌++◌, List, map, length}
+use Rattle.std.proofs.Common.{take, drop, get_or, ℕ, arith, OnOk}
 use Rattle.std.proofs.lemmas.Result.{on_ok_weaker, on_err_weaker}
 use Rattle.ti_lang.specs.declared.program.exprs.Expr.{Expr}
 use Rattle.ti_lang.specs.declared.program.exprs.Range.{Range}
 use Rattle.ti_lang.specs.Program.Types.{ValueType}
-use Rattle.ti_lang.specs.Program.Expressions.{NumberedExp, NumberedExps, NumberedRanges, numbered_exps, numbered_ranges}
-use Rattle.ti_lang.specs.Program.Views.{program_of, expression_of, bound_of}
+use Rattle.ti_lang.specs.Program.Expressions.{NumberedExp, NumberedExps, NumberedRanges, rect}
+use Rattle.ti_lang.specs.Program.Expressions.{numbered_exps, numbered_ranges}
+use Rattle.ti_lang.specs.Program.Views.{expression_of, bound_of}
 use Rattle.ti_lang.specs.Typing.Kinds.{is_point_type}
 use Rattle.ti_lang.specs.Typing.TyRef.{ty_view}
 use Rattle.ti_lang.specs.Typing.TextTypes.{how_many}
 use Rattle.ti_lang.proofs.Lemmas.{seen_numbered_rect, seen_numbered_member, seen_numbered_index}
-use Rattle.ti_lower_expr.specs.Coding.{rect_instr, kind_of_ranges, how_many_ranges, member_code, index_code}
+use Rattle.ti_lower_expr.specs.Coding.{member_code, index_code}
+use Rattle.ti_code.specs.declared.instr.Instr.{Instr}
 use Rattle.ti_lower_expr.specs.Contents.{BeginsWith}
 use Rattle.ti_lower_expr.specs.Mirrors.Sites.{type_in, called_behind, walked_in, range_in, all_in, ranges_in}
 use Rattle.ti_lower_expr.proofs.Beginning.{on_any_err, same_begins, both_begin, jump_begins, walked_begins, all_begin, range_begins, ranges_begin}
 use Rattle.ti_lower_expr.proofs.Growing.{exps_at, ranges_at}
 use Rattle.ti_lower_expr.proofs.walker.+walk.Goals as goal
-
-pub form-returns-in_ok-add_rect-in-Rect-clause-code : goal.form-returns-in_ok-add_rect-in-Rect-clause-code
-form-returns-in_ok-add_rect-in-Rect-clause-code t c =
-    let s = c.args.context.now in
-    let o = c.args.out.now.items in
-    let m = c.walk_ranges.new.out.items in
-    let n = c.add_rect.new.out.items in
-    let at = c.in-Rect.place in
-    let last = λ (rs : List Range). rect_instr (kind_of_ranges (program_of s.program.now) s.this (numbered_ranges (map bound_of rs))) (how_many_ranges (numbered_ranges (map bound_of rs))) at ∷ [] in
-    subst (λ (y : NumberedExp). n ≡ walked_in s y o) (sym (seen_numbered_rect c.args.expr.now at c.in-Rect.ranges c.in-Rect.is))
-    (subst (λ (ys : List Range). n ≡ m ++ last ys) c.deref-in-Rect-2.ensures.value c.in_ok-add_rect-in-Rect.ensures.code
-    ∙ ap (λ z. z ++ last c.in-Rect.ranges.items)
-    (subst (λ (ys : List Range). m ≡ ranges_in s (numbered_ranges (map bound_of ys)) o) c.deref-in-Rect.ensures.value c.in_ok-walk_ranges-in-Rect.ensures.code))
-
-pub form-returns-in_ok-walk_all-in-Member-clause-code : goal.form-returns-in_ok-walk_all-in-Member-clause-code
-form-returns-in_ok-walk_all-in-Member-clause-code t c =
-    let s = c.args.context.now in
-    let o = c.args.out.now.items in
-    let m = c.walk-in-Member.new.out.items in
-    let k = c.walk_all-in-Member.new.out.items in
-    let n = c.member.new.out.items in
-    let r = c.member.result in
-    let at = c.in-Member.place in
-    let name = c.in-Member.name in
-    let a = expression_of c.in-Member.receiver.value in
-    let exps = λ (ys : List Expr). numbered_exps (map expression_of ys) in
-    let xs = c.in-Member.args.items in
-    let told = ty_view c.in_ok-t-in-Member.t.ty in
-    let code = λ (u : ValueType) (ys : List Expr). member_code (called_behind s u name) (how_many (exps ys)) at in
-    let first : m ≡ walked_in s a o = subst (λ (z : Expr). m ≡ walked_in s (expression_of z) o) c.deref-in-Member.ensures c.in_ok-t-in-Member.ensures.code in
-    let type : told ≡ type_in s a = subst (λ (z : Expr). told ≡ type_in s (expression_of z)) c.deref-in-Member.ensures c.in_ok-t-in-Member.ensures.ty in
-    let rest : k ≡ all_in s (exps xs) m = subst (λ (ys : List Expr). k ≡ all_in s (exps ys) m) c.deref-in-Member-2.ensures.value c.in_ok-walk_all-in-Member.ensures.code in
-    subst (λ (y : NumberedExp). OnOk r (n ≡ walked_in s y o)) (sym (seen_numbered_member c.args.expr.now at c.in-Member.receiver name c.in-Member.args c.in-Member.is))
-    (on_ok_weaker r (λ (h : n ≡ k ++ code told xs). h ∙ ap (λ u. k ++ code u xs) type ∙ ap (λ z. z ++ code (type_in s a) xs) (rest ∙ ap (all_in s (exps xs)) first))
-    (subst (λ (ys : List Expr). OnOk r (n ≡ k ++ code told ys)) c.deref-in-Member-3.ensures.value c.member.ensures.code))
-
-pub form-returns-in_ok-walk_all-in-Index-clause-code : goal.form-returns-in_ok-walk_all-in-Index-clause-code
-form-returns-in_ok-walk_all-in-Index-clause-code t c =
-    let s = c.args.context.now in
-    let o = c.args.out.now.items in
-    let m = c.walk-in-Index.new.out.items in
-    let k = c.walk_all-in-Index.new.out.items in
-    let n = c.index.new.out.items in
-    let r = c.index.result in
-    let at = c.in-Index.place in
-    let a = expression_of c.in-Index.receiver.value in
-    let exps = λ (ys : List Expr). numbered_exps (map expression_of ys) in
-    let xs = c.in-Index.indices.items in
-    let told = ty_view c.in_ok-t-in-Index.t.ty in
-    let code = λ (u : ValueType) (ys : List Expr). index_code (is_point_type u) (how_many (exps ys)) at in
-    let first : m ≡ walked_in s a o = subst (λ (z : Expr). m ≡ walked_in s (expression_of z) o) c.deref-in-Index.ensures c.in_ok-t-in-Index.ensures.code in
-    let type : told ≡ type_in s a = subst (λ (z : Expr). told ≡ type_in s (expression_of z)) c.deref-in-Index.ensures c.in_ok-t-in-Index.ensures.ty in
-    let rest : k ≡ all_in s (exps xs) m = subst (λ (ys : List Expr). k ≡ all_in s (exps ys) m) c.deref-in-Index-2.ensures.value c.in_ok-walk_all-in-Index.ensures.code in
-    subst (λ (y : NumberedExp). OnOk r (n ≡ walked_in s y o)) (sym (seen_numbered_index c.args.expr.now at c.in-Index.receiver c.in-Index.indices c.in-Index.is))
-    (on_ok_weaker r (λ (h : n ≡ k ++ code told xs). h ∙ ap (λ u. k ++ code u xs) type ∙ ap (λ z. z ++ code (type_in s a) xs) (rest ∙ ap (all_in s (exps xs)) first))
-    (subst (λ (ys : List Expr). OnOk r (n ≡ k ++ code told ys)) c.deref-in-Index-3.ensures.value c.index.ensures.code))
 
 pub walk_all-loop-x-init : goal.walk_all-loop-x-init
 walk_all-loop-x-init t c = record { code = refl; begins = same_begins refl }
@@ -120,53 +67,14 @@ append_operator-returns-in_err-close_short_circuit-in-Where-clause-err t c =
 
 pub walk-returns-in_err-second-in-Binary-clause-err : goal.walk-returns-in_err-second-in-Binary-clause-err
 walk-returns-in_err-second-in-Binary-clause-err t c =
-    on_any_err _ (both_begin (walked_begins c.args.context.now (expression_of c.deref.result.now) c.in_ok-first-in-Binary.ensures.code) c.in_err-second-in-Binary.ensures.err)
+    let x = expression_of c.deref-in-Binary.result.now in
+    on_any_err _
+    (both_begin (walked_begins c.args.context.now x c.in_ok-first-in-Binary.ensures.code)
+    c.in_err-second-in-Binary.ensures.err)
 
 pub walk-returns-in_err-add_unary-in-Unary-clause-err : goal.walk-returns-in_err-add_unary-in-Unary-clause-err
 walk-returns-in_err-add_unary-in-Unary-clause-err t c =
     on_any_err _ (both_begin (walked_begins c.args.context.now (expression_of c.deref-in-Unary.result.now) c.in_ok-t-in-Unary.ensures.code) c.in_err-add_unary-in-Unary.ensures.err)
-
-pub form-returns-in_err-add_point-in-Point-clause-err : goal.form-returns-in_err-add_point-in-Point-clause-err
-form-returns-in_err-add_point-in-Point-clause-err t c =
-    on_any_err _ (both_begin (all_begin c.args.context.now (numbered_exps (map expression_of c.deref.result.now)) c.in_ok-walk_all-in-Point.ensures.code) c.in_err-add_point-in-Point.ensures.err)
-
-pub form-returns-in_err-add_rect-in-Rect-clause-err : goal.form-returns-in_err-add_rect-in-Rect-clause-err
-form-returns-in_err-add_rect-in-Rect-clause-err t c =
-    on_any_err _ (both_begin (ranges_begin c.args.context.now (numbered_ranges (map bound_of c.deref-in-Rect.result.now)) c.in_ok-walk_ranges-in-Rect.ensures.code) c.in_err-add_rect-in-Rect.ensures.err)
-
-pub form-returns-in_err-add_unary-in-Unary-clause-err : goal.form-returns-in_err-add_unary-in-Unary-clause-err
-form-returns-in_err-add_unary-in-Unary-clause-err t c =
-    on_any_err _ (both_begin (walked_begins c.args.context.now (expression_of c.deref-in-Unary.result.now) c.in_ok-t-in-Unary.ensures.code) c.in_err-add_unary-in-Unary.ensures.err)
-
-pub form-returns-in_err-second-in-Binary-clause-err : goal.form-returns-in_err-second-in-Binary-clause-err
-form-returns-in_err-second-in-Binary-clause-err t c =
-    on_any_err _ (both_begin (walked_begins c.args.context.now (expression_of c.deref-in-Binary.result.now) c.in_ok-first-in-Binary.ensures.code) c.in_err-second-in-Binary.ensures.err)
-
-pub form-returns-in_err-add_cast-in-Cast-clause-err : goal.form-returns-in_err-add_cast-in-Cast-clause-err
-form-returns-in_err-add_cast-in-Cast-clause-err t c =
-    on_any_err _ (both_begin (walked_begins c.args.context.now (expression_of c.deref-in-Cast.result.now) c.in_ok-t-in-Cast.ensures.code) c.in_err-add_cast-in-Cast.ensures.err)
-
-pub form-returns-in_ok-t-in-Select-clause-err : goal.form-returns-in_ok-t-in-Select-clause-err
-form-returns-in_ok-t-in-Select-clause-err t c =
-    on_err_weaker c.field.result (both_begin (walked_begins c.args.context.now (expression_of c.deref-in-Select.result.now) c.in_ok-t-in-Select.ensures.code)) c.field.ensures.err
-
-pub form-returns-in_err-walk_all-in-Member-clause-err : goal.form-returns-in_err-walk_all-in-Member-clause-err
-form-returns-in_err-walk_all-in-Member-clause-err t c =
-    on_any_err _ (both_begin (walked_begins c.args.context.now (expression_of c.deref-in-Member.result.now) c.in_ok-t-in-Member.ensures.code) c.in_err-walk_all-in-Member.ensures.err)
-
-pub form-returns-in_ok-walk_all-in-Member-clause-err : goal.form-returns-in_ok-walk_all-in-Member-clause-err
-form-returns-in_ok-walk_all-in-Member-clause-err t c =
-    on_err_weaker c.member.result (both_begin (both_begin (walked_begins c.args.context.now (expression_of c.deref-in-Member.result.now) c.in_ok-t-in-Member.ensures.code)
-    (all_begin c.args.context.now (numbered_exps (map expression_of c.deref-in-Member-2.result.now)) c.in_ok-walk_all-in-Member.ensures.code))) c.member.ensures.err
-
-pub form-returns-in_err-walk_all-in-Index-clause-err : goal.form-returns-in_err-walk_all-in-Index-clause-err
-form-returns-in_err-walk_all-in-Index-clause-err t c =
-    on_any_err _ (both_begin (walked_begins c.args.context.now (expression_of c.deref-in-Index.result.now) c.in_ok-t-in-Index.ensures.code) c.in_err-walk_all-in-Index.ensures.err)
-
-pub form-returns-in_ok-walk_all-in-Index-clause-err : goal.form-returns-in_ok-walk_all-in-Index-clause-err
-form-returns-in_ok-walk_all-in-Index-clause-err t c =
-    on_err_weaker c.index.result (both_begin (both_begin (walked_begins c.args.context.now (expression_of c.deref-in-Index.result.now) c.in_ok-t-in-Index.ensures.code)
-    (all_begin c.args.context.now (numbered_exps (map expression_of c.deref-in-Index-2.result.now)) c.in_ok-walk_all-in-Index.ensures.code))) c.index.ensures.err
 
 pub walk_all-returns-in_err-walk-clause-err : goal.walk_all-returns-in_err-walk-clause-err
 walk_all-returns-in_err-walk-clause-err t c = on_any_err _ (both_begin c.loop-x.invariant.begins c.in_err-walk.ensures.err)
@@ -190,3 +98,131 @@ walk_range-returns-in_err-walk-in-Stepped-2-clause-err t c =
 pub walk_range-returns-in_err-walk-in-Stepped-3-clause-err : goal.walk_range-returns-in_err-walk-in-Stepped-3-clause-err
 walk_range-returns-in_err-walk-in-Stepped-3-clause-err t c =
     on_any_err _ (both_begin (both_begin (walked_begins c.args.context.now (expression_of c.in-Stepped.low) c.in_ok-walk-in-Stepped.ensures.code) (walked_begins c.args.context.now (expression_of c.in-Stepped.high) c.in_ok-walk-in-Stepped-2.ensures.code)) c.in_err-walk-in-Stepped-3.ensures.err)
+
+pub walk-returns-in_ok-t-in-Member-clause-code : goal.walk-returns-in_ok-t-in-Member-clause-code
+walk-returns-in_ok-t-in-Member-clause-code t c =
+    let s = c.args.context.now in
+    let o = c.args.out.now.items in
+    let m = c.walk-in-Member.new.out.items in
+    let n = c.member.new.out.items in
+    let r = c.member.result in
+    let f = c.in-Member in
+    let a = expression_of f.receiver.value in
+    let exps = λ (ys : List Expr). numbered_exps (map expression_of ys) in
+    let xs = f.args.items in
+    let told = ty_view c.in_ok-t-in-Member.t.ty in
+    let last = λ (u : ValueType) (ys : List Expr).
+    member_code (called_behind s u f.name) (how_many (exps ys)) f.place in
+    let whole = λ (u : ValueType) (ys : List Expr) (z : List Instr).
+    all_in s (exps ys) z ++ last u ys in
+    let is = c.in_ok-t-in-Member.ensures in
+    let first : m ≡ walked_in s a o =
+    subst (λ (z : Expr). m ≡ walked_in s (expression_of z) o) c.deref-in-Member.ensures is.code in
+    let type : told ≡ type_in s a =
+    subst (λ (z : Expr). told ≡ type_in s (expression_of z)) c.deref-in-Member.ensures is.ty in
+    subst (λ (y : NumberedExp). OnOk r (n ≡ walked_in s y o))
+    (sym (seen_numbered_member c.args.expr.now f.place f.receiver f.name f.args f.is))
+    (on_ok_weaker r
+    (λ (h : n ≡ whole told xs m).
+    h ∙ ap (λ u. whole u xs m) type ∙ ap (whole (type_in s a) xs) first)
+    (subst (λ (ys : List Expr). OnOk r (n ≡ whole told ys m)) c.deref-in-Member-2.ensures.value
+    c.member.ensures.code))
+
+pub walk-returns-in_ok-t-in-Member-clause-err : goal.walk-returns-in_ok-t-in-Member-clause-err
+walk-returns-in_ok-t-in-Member-clause-err t c =
+    let x = expression_of c.deref-in-Member.result.now in
+    on_err_weaker c.member.result
+    (both_begin (walked_begins c.args.context.now x c.in_ok-t-in-Member.ensures.code))
+    c.member.ensures.err
+
+pub walk-returns-in_ok-t-in-Index-clause-code : goal.walk-returns-in_ok-t-in-Index-clause-code
+walk-returns-in_ok-t-in-Index-clause-code t c =
+    let s = c.args.context.now in
+    let o = c.args.out.now.items in
+    let m = c.walk-in-Index.new.out.items in
+    let n = c.index.new.out.items in
+    let r = c.index.result in
+    let f = c.in-Index in
+    let a = expression_of f.receiver.value in
+    let exps = λ (ys : List Expr). numbered_exps (map expression_of ys) in
+    let xs = f.indices.items in
+    let told = ty_view c.in_ok-t-in-Index.t.ty in
+    let last = λ (u : ValueType) (ys : List Expr).
+    index_code (is_point_type u) (how_many (exps ys)) f.place in
+    let whole = λ (u : ValueType) (ys : List Expr) (z : List Instr).
+    all_in s (exps ys) z ++ last u ys in
+    let is = c.in_ok-t-in-Index.ensures in
+    let first : m ≡ walked_in s a o =
+    subst (λ (z : Expr). m ≡ walked_in s (expression_of z) o) c.deref-in-Index.ensures is.code in
+    let type : told ≡ type_in s a =
+    subst (λ (z : Expr). told ≡ type_in s (expression_of z)) c.deref-in-Index.ensures is.ty in
+    subst (λ (y : NumberedExp). OnOk r (n ≡ walked_in s y o))
+    (sym (seen_numbered_index c.args.expr.now f.place f.receiver f.indices f.is))
+    (on_ok_weaker r
+    (λ (h : n ≡ whole told xs m).
+    h ∙ ap (λ u. whole u xs m) type ∙ ap (whole (type_in s a) xs) first)
+    (subst (λ (ys : List Expr). OnOk r (n ≡ whole told ys m)) c.deref-in-Index-2.ensures.value
+    c.index.ensures.code))
+
+pub walk-returns-in_ok-t-in-Index-clause-err : goal.walk-returns-in_ok-t-in-Index-clause-err
+walk-returns-in_ok-t-in-Index-clause-err t c =
+    let x = expression_of c.deref-in-Index.result.now in
+    on_err_weaker c.index.result
+    (both_begin (walked_begins c.args.context.now x c.in_ok-t-in-Index.ensures.code))
+    c.index.ensures.err
+
+pub walk-returns-in_ok-walk_rect-in-Rect-clause-code
+    : goal.walk-returns-in_ok-walk_rect-in-Rect-clause-code
+walk-returns-in_ok-walk_rect-in-Rect-clause-code t c =
+    let s = c.args.context.now in
+    let o = c.args.out.now.items in
+    let n = c.walk_rect.new.out.items in
+    let f = c.in-Rect in
+    subst (λ (y : NumberedExp). n ≡ walked_in s y o)
+    (sym (seen_numbered_rect c.args.expr.now f.place f.ranges f.is))
+    (subst (λ (rs : List Range). n ≡ walked_in s (rect f.place (map bound_of rs)) o)
+    c.deref-in-Rect.ensures.value c.in_ok-walk_rect-in-Rect.ensures.code)
+
+pub walk-returns-in_err-add_point-in-Point-clause-err
+    : goal.walk-returns-in_err-add_point-in-Point-clause-err
+walk-returns-in_err-add_point-in-Point-clause-err t c =
+    let xs = numbered_exps (map expression_of c.deref.result.now) in
+    on_any_err _
+    (both_begin (all_begin c.args.context.now xs c.in_ok-walk_all-in-Point.ensures.code)
+    c.in_err-add_point-in-Point.ensures.err)
+
+pub walk_rect-returns-clause-err : goal.walk_rect-returns-clause-err
+walk_rect-returns-clause-err t c =
+    let rs = numbered_ranges (map bound_of c.args.ranges.now) in
+    on_err_weaker c.add_rect.result
+    (both_begin (ranges_begin c.args.context.now rs c.in_ok-walk_ranges.ensures.code))
+    c.add_rect.ensures.err
+
+pub cast-returns-in_err-add_cast-clause-err : goal.cast-returns-in_err-add_cast-clause-err
+cast-returns-in_err-add_cast-clause-err t c =
+    let x = expression_of c.args.operand.now in
+    on_any_err _ (both_begin (walked_begins c.args.context.now x c.in_ok-t.ensures.code)
+    c.in_err-add_cast.ensures.err)
+
+pub select-returns-in_err-field-clause-err : goal.select-returns-in_err-field-clause-err
+select-returns-in_err-field-clause-err t c =
+    let x = expression_of c.args.receiver.now in
+    on_any_err _ (walked_begins c.args.context.now x c.in_ok-t.ensures.code)
+
+pub select-returns-in_err-emit-clause-err : goal.select-returns-in_err-emit-clause-err
+select-returns-in_err-emit-clause-err t c =
+    let x = expression_of c.args.receiver.now in
+    on_any_err _ (both_begin (walked_begins c.args.context.now x c.in_ok-t.ensures.code)
+    c.in_err-emit.ensures.err)
+
+pub member-returns-in_err-add_member-clause-err : goal.member-returns-in_err-add_member-clause-err
+member-returns-in_err-add_member-clause-err t c =
+    let xs = numbered_exps (map expression_of c.args.args.now) in
+    on_any_err _ (both_begin (all_begin c.args.context.now xs c.in_ok-walk_all.ensures.code)
+    c.in_err-add_member.ensures.err)
+
+pub index-returns-in_err-add_index-clause-err : goal.index-returns-in_err-add_index-clause-err
+index-returns-in_err-add_index-clause-err t c =
+    let xs = numbered_exps (map expression_of c.args.indices.now) in
+    on_any_err _ (both_begin (all_begin c.args.context.now xs c.in_ok-walk_all.ensures.code)
+    c.in_err-add_index.ensures.err)
