@@ -20,7 +20,7 @@ ghost use Rattle.ti_check.specs.Mirrors.Contexts.{program_at, around_of, scope_a
 ghost use Rattle.ti_check.specs.Mirrors.Targets.{IsReceiver};
 
 use crate::context::CheckContext;
-use crate::targets::Target;
+use crate::targets::TargetTyping;
 use ti_base::Place;
 use ti_lang::program::{Expr, Init, Printed, Stmt, TypeUse};
 use ti_lang::typing::TyRef;
@@ -143,7 +143,7 @@ impl<'a> CheckContext<'a> {
         self,
         place: Place,
         target: &'a Expr,
-        t: Target<'a>,
+        t: TargetTyping<'a>,
         value_ty: Option<TyRef<'a>>,
     ) -> Option<Refusal>
         requires { IsReceiver self target.now t.receiver }
@@ -182,7 +182,7 @@ impl<'a> CheckContext<'a> {
         place: Place,
         operator: BinaryOperator,
         target: &'a Expr,
-        t: Target<'a>,
+        t: TargetTyping<'a>,
         value_ty: Option<TyRef<'a>>,
     ) -> Option<Refusal>
         requires { IsReceiver self target.now t.receiver }
@@ -227,7 +227,7 @@ impl<'a> CheckContext<'a> {
         place: Place,
         operator: StepOperator,
         target: &'a Expr,
-        t: Target<'a>,
+        t: TargetTyping<'a>,
     ) -> Option<Refusal>
         requires { IsReceiver self target.now t.receiver }
         ensures { result ≡ earliest (judged (option_map ty_view t.entry.ty)

@@ -21,7 +21,7 @@ use ti_types::TypeChecker;
 
 /// The typing result of the target of an assignment.
 #[derive(Clone, Copy)]
-pub struct Target<'a> {
+pub struct TargetTyping<'a> {
     /// Its type, if it has one.
     pub ty: Option<TyRef<'a>>,
     /// The first type error in it, apart from the rules on assignment.
@@ -100,7 +100,7 @@ fn hidden_element(ty: Option<TyRef>) -> bool
 
 impl<'a> CheckContext<'a> {
     /// The typing result of an expression as the target of an assignment.
-    pub fn target(self, expr: &'a Expr) -> Target<'a>
+    pub fn target(self, expr: &'a Expr) -> TargetTyping<'a>
         ensures ty { option_map ty_view result.ty
             ≡ operand_type (program_at self.entry) (scope_at self.entry) (expression_of expr.now) }
         ensures first { result.first
@@ -112,7 +112,7 @@ impl<'a> CheckContext<'a> {
             program: &self.program.parts,
         };
         let judged = judge.target(self.scope, expr);
-        Target {
+        TargetTyping {
             ty: judged.whole.operand(),
             first: judged.whole.first,
             receiver: judged.receiver,

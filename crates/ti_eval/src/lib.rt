@@ -44,4 +44,4 @@ pub use proc_domain::{element_at, is_rect_of_procs, rect_of_procs};
 pub use rank::Rank;
 pub use scalars::{Scalar, of_scalars};
 pub use var_value::VarValue;
-pub use variables::{change, empty_rect, find, is_same_variable};
+pub use variables::{change, empty_rect, find};

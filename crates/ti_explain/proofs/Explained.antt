@@ -23,7 +23,7 @@ use Rattle.ti_rules.specs.RefusalOf as text
 use Rattle.ti_rules.proofs.Lemmas.{OneReading, never_both, not_among}
 use Rattle.ti_parse.specs.Answer.{Parsed}
 use Rattle.ti_parse_expr.specs.declared.error.ParseErr.TheVariants as parser
-use Rattle.ti_explain.specs.declared.reason.Reason.{Reason}
+use Rattle.ti_explain.specs.declared.reason.RefusalReason.{RefusalReason}
 use Rattle.ti_explain.specs.declared.reason.Explanation.{Explanation}
 use Rattle.ti_explain.specs.Expected.{AreUnexpectedReasons, tried, untried}
 use Rattle.ti_explain.specs.Explanations.{AreProgramReasons, AreTreeReasons, AreTokenReasons, AreReasons, Explains}
@@ -32,11 +32,11 @@ use Rattle.ti_explain.specs.Mirrors.Phases.{ProgramExplained, TreeExplained, Tok
 
 -- ---- explained is refused
 
-program_refused : (p : ProgramView) (r : Refusal) (l : List Reason) → AreProgramReasons p r l → IsProgramRefusal p r
+program_refused : (p : ProgramView) (r : Refusal) (l : List RefusalReason) → AreProgramReasons p r l → IsProgramRefusal p r
 program_refused p r l (explained.of_types first) = refusals.of_types first
 program_refused p r l (explained.of_single none first reasons) = refusals.of_single none first
 
-tree_refused : (tree : TextTree) (r : Refusal) (l : List Reason) → AreTreeReasons tree r l → IsTreeRefusal tree r
+tree_refused : (tree : TextTree) (r : Refusal) (l : List RefusalReason) → AreTreeReasons tree r l → IsTreeRefusal tree r
 tree_refused tree r l (explained.of_names first) = text.of_names first
 tree_refused tree r l (explained.of_program {program = p} {reasons = reasons} named numbers is) = text.of_program named numbers (program_refused p r reasons is)
 
@@ -48,20 +48,20 @@ misfit_refused : (bytes : List ℕ) (tokens : List Token) (r : Refusal) (misfit 
 unfolding refusal_at
 misfit_refused bytes tokens r misfit has rule is = subst (IsRefusal bytes) (ap (λ x. refusal_at x r.place) (sym rule)) (text.of_tokens has is)
 
-unexpected_refused : (tokens : List Token) (at : Place) (l : List Reason) → AreUnexpectedReasons tokens at l → IsGrammarRefusal tokens (Some (Unexpected, at))
+unexpected_refused : (tokens : List Token) (at : Place) (l : List RefusalReason) → AreUnexpectedReasons tokens at l → IsGrammarRefusal tokens (Some (Unexpected, at))
 unexpected_refused tokens at l (tried front rest t is place shows expected) =
     subst (λ p. IsGrammarRefusal tokens (Some (Unexpected, p))) place (refused front t rest is shows)
 unexpected_refused tokens at l (untried front rest t is place shows never) =
     subst (λ p. IsGrammarRefusal tokens (Some (Unexpected, p))) place (refused front t rest is shows)
 
-tokens_refused : (bytes : List ℕ) (tokens : List Token) (r : Refusal) (l : List Reason) → HasTokens bytes tokens → AreTokenReasons tokens r l → IsRefusal bytes r
+tokens_refused : (bytes : List ℕ) (tokens : List Token) (r : Refusal) (l : List RefusalReason) → HasTokens bytes tokens → AreTokenReasons tokens r l → IsRefusal bytes r
 tokens_refused bytes tokens r l has (explained.of_unexpected {reasons = reasons} rule is) =
     misfit_refused bytes tokens r Unexpected has rule (unexpected_refused tokens r.place reasons is)
 tokens_refused bytes tokens r l has (explained.of_depth rule is) = misfit_refused bytes tokens r TooDeep has rule is
 
 -- ---- a refusal without reasons
 
-pub alone : (P : Refusal → List Reason → Type 0) (r : Refusal) (e : Explanation) → e.refusal ≡ r → e.reasons.items ≡ [] → P r [] → P e.refusal e.reasons.items
+pub alone : (P : Refusal → List RefusalReason → Type 0) (r : Refusal) (e : Explanation) → e.refusal ≡ r → e.reasons.items ≡ [] → P r [] → P e.refusal e.reasons.items
 alone P r e refusal reasons is = subst (P e.refusal) (sym reasons) (subst (λ x. P x []) (sym refusal) is)
 
 -- ---- the phases

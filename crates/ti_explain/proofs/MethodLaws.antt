@@ -13,8 +13,8 @@ use Rattle.ti_rules.specs.Mirrors.First.{earliest}
 use Rattle.ti_rules.specs.SingleRules.{standing_single_refusals, method_single_refusals, single_refusals}
 use Rattle.ti_rules.specs.StmtInContext.{StmtInContext, standing_in_method}
 use Rattle.ti_rules.proofs.Lemmas.{first_only, not_among}
-use Rattle.ti_explain.specs.declared.reason.Reason.{Reason}
-use Rattle.ti_explain.specs.SingleReasons.{head_refusals, AreSingleReasons, of_statement, of_head}
+use Rattle.ti_explain.specs.declared.reason.RefusalReason.{RefusalReason}
+use Rattle.ti_explain.specs.SingleReasons.{single_head_refusals, AreSingleReasons, of_statement, of_head}
 use Rattle.ti_explain.specs.Mirrors.Found.{IsFound, IsFoundInHead, IsFoundInMethod, IsFoundAt}
 
 -- ---- lists of lists
@@ -67,23 +67,23 @@ first_of_part some none whole part r first within among = by (earliest part) ref
 
 -- ---- in a method
 
-pub then_site : (p : ProgramView) (r : Refusal) (m : NumberedMethod) (o : Result (Option (Vec Reason Global)) Memory) → IsFoundInHead p r m None
+pub then_site : (p : ProgramView) (r : Refusal) (m : NumberedMethod) (o : Result (Option (Vec RefusalReason Global)) Memory) → IsFoundInHead p r m None
     → IfOk o (IsFound p r (standing_in_method p m)) → IfOk o (IsFoundInMethod p r m)
 then_site p r m (Ok None) head found = (head, found)
 then_site p r m (Ok (Some v)) head found = inr found
 then_site p r m (Err e) head found = found
 
-pub then_at : (p : ProgramView) (r : Refusal) (i : ℕ) (m : NumberedMethod) (o : Result (Option (Vec Reason Global)) Memory) → slice_get p.methods i ≡ Some m
+pub then_at : (p : ProgramView) (r : Refusal) (i : ℕ) (m : NumberedMethod) (o : Result (Option (Vec RefusalReason Global)) Memory) → slice_get p.methods i ≡ Some m
     → IfOk o (IsFoundInMethod p r m) → IfOk o (IsFoundAt p r i)
 then_at p r i m (Ok found) at is = (m, at, is)
 then_at p r i m (Err e) at is = is
 
 -- ---- in a program
 
-pub reasons_at : ((l : List Refusal) (a : Refusal) → earliest l ≡ Some a → IsFirstRefusal (Contains l) a) → (p : ProgramView) (r : Refusal) (i : ℕ) (v : Vec Reason Global)
+pub reasons_at : ((l : List Refusal) (a : Refusal) → earliest l ≡ Some a → IsFirstRefusal (Contains l) a) → (p : ProgramView) (r : Refusal) (i : ℕ) (v : Vec RefusalReason Global)
     → IsFoundAt p r i (Some v) → AreSingleReasons p r v.items
 reasons_at some p r i v (m, at, inl (refused, is)) =
-    subst (AreSingleReasons p r) (sym is) (of_head (got p.methods i m at) (some (head_refusals p m) r refused).is_broken)
+    subst (AreSingleReasons p r) (sym is) (of_head (got p.methods i m at) (some (single_head_refusals p m) r refused).is_broken)
 reasons_at some p r i v (m, at, inr (x, among, refused, is)) =
     subst (AreSingleReasons p r) (sym is)
     (of_statement (contains_flat (standing_in_method p) p.methods m x (got p.methods i m at) among) (some (standing_single_refusals p x) r refused).is_broken)
@@ -98,9 +98,9 @@ never_nowhere some none p r first nowhere = in_method (flat_contains (method_sin
 
     in_parts : (m : NumberedMethod) → Contains p.methods m → IsFoundInMethod p r m None → Contains (method_single_refusals p m) r → ⊥
     in_parts m among (head, body) own =
-        elim (Contains-append_cases (head_refusals p m) (flat_map (standing_single_refusals p) (standing_in_method p m)) r own) [
-          | inl here ↦ head (first_of_part some none (Contains (single_refusals p)) (head_refusals p m) r first
-              (λ a broken. in_program m among a (Contains-append_left (head_refusals p m) (flat_map (standing_single_refusals p) (standing_in_method p m)) a broken)) here)
+        elim (Contains-append_cases (single_head_refusals p m) (flat_map (standing_single_refusals p) (standing_in_method p m)) r own) [
+          | inl here ↦ head (first_of_part some none (Contains (single_refusals p)) (single_head_refusals p m) r first
+              (λ a broken. in_program m among a (Contains-append_left (single_head_refusals p m) (flat_map (standing_single_refusals p) (standing_in_method p m)) a broken)) here)
           | inr there ↦ in_statement m among body (flat_contains (standing_single_refusals p) (standing_in_method p m) r there)
         ]
       where
@@ -108,7 +108,7 @@ never_nowhere some none p r first nowhere = in_method (flat_contains (method_sin
             → (x : StmtInContext) × Contains (standing_in_method p m) x × Contains (standing_single_refusals p x) r → ⊥
         in_statement m among body (x, stands, own) =
             body x stands (first_of_part some none (Contains (single_refusals p)) (standing_single_refusals p x) r first
-            (λ a broken. in_program m among a (Contains-append_right (head_refusals p m) (flat_map (standing_single_refusals p) (standing_in_method p m)) a
+            (λ a broken. in_program m among a (Contains-append_right (single_head_refusals p m) (flat_map (standing_single_refusals p) (standing_in_method p m)) a
             (contains_flat (standing_single_refusals p) (standing_in_method p m) x a stands broken))) own)
 
     in_method : (m : NumberedMethod) × Contains p.methods m × Contains (method_single_refusals p m) r → ⊥

@@ -22,8 +22,8 @@ use Rattle.ti_rules.specs.LexicalRefusals.{most_bytes}
 use Rattle.ti_parse_expr.specs.Answers.{EndsAtEnd}
 use Rattle.ti_parse_expr.specs.declared.error.ParseErr.TheVariants as parser
 use Rattle.ti_parse.specs.Answer.{Parsed}
-use Rattle.ti_explain.specs.declared.reason.Reason.{Reason}
-use Rattle.ti_explain.specs.Expected.{nowhere, CanFollow, expected_reason, AreExpected, can_stand, cannot_stand, same_bool, fits_position, IsAlone, token_texts, AreUnexpectedReasons, tried, untried}
+use Rattle.ti_explain.specs.declared.reason.RefusalReason.{RefusalReason}
+use Rattle.ti_explain.specs.Expected.{zero_place, CanFollow, expected_reason, AreExpected, can_stand, cannot_stand, same_bool, fits_position, IsAlone, token_texts, AreUnexpectedReasons, tried, untried}
 use Rattle.ti_explain.specs.Mirrors.Trials.{IsOnly, IsKindOf, IsFront, IsTrial, moves_on, BeginsIf, Tries, IsFirstAt}
 
 -- ---- lists
@@ -99,25 +99,25 @@ parsed_begins front t tokens tree trial spells =
     (trial.end ∷ [], tree, subst (λ l. Spells l tree) (trial.is ∙ sym (append_assoc front (t ∷ []) (trial.end ∷ []))) spells)
 
 -- the front has no token that is nowhere
-not_in_front : (front before more : List Token) (x : Token) → IsFront front → front ≡ before ++ x ∷ more → x.place ≡ nowhere → ⊥
+not_in_front : (front before more : List Token) (x : Token) → IsFront front → front ≡ before ++ x ∷ more → x.place ≡ zero_place → ⊥
 not_in_front front before more x is_front e at =
     is_front.somewhere (length before) x (ap (λ l. slice_get l (length before)) e ∙ seam before more x) at
 
 -- a token nowhere doesn't fit: it is the end
-pub end_refused : (front : List Token) (t : Token) (tokens : List Token) → IsTrial front t tokens → IsGrammarRefusal tokens (Some (Unexpected, nowhere)) → BeginsText (front ++ t ∷ [])
-end_refused front t tokens trial is = by (refused_parts tokens Unexpected nowhere is)
+pub end_refused : (front : List Token) (t : Token) (tokens : List Token) → IsTrial front t tokens → IsGrammarRefusal tokens (Some (Unexpected, zero_place)) → BeginsText (front ++ t ∷ [])
+end_refused front t tokens trial is = by (refused_parts tokens Unexpected zero_place is)
   where
-    at : (before : List Token) (x : Token) → ShowsMisfit Unexpected before x → x.place ≡ nowhere → Stands x front t trial.end before → BeginsText (front ++ t ∷ [])
+    at : (before : List Token) (x : Token) → ShowsMisfit Unexpected before x → x.place ≡ zero_place → Stands x front t trial.end before → BeginsText (front ++ t ∷ [])
     at before x shows place (in_front more e) = absurd (not_in_front front before more x trial.is_front e place)
     at before x shows place (at_trial e same) = absurd (trial.placed (ap (λ (z : Token). z.place) (sym same) ∙ place))
     at before x (unexpected begins not shallow) place (at_end e same) = subst BeginsText e begins
 
-    by : (before : List Token) × (x : Token) × (rest : List Token) × (tokens ≡ before ++ x ∷ rest) × ShowsMisfit Unexpected before x × (x.place ≡ nowhere) → BeginsText (front ++ t ∷ [])
+    by : (before : List Token) × (x : Token) × (rest : List Token) × (tokens ≡ before ++ x ∷ rest) × ShowsMisfit Unexpected before x × (x.place ≡ zero_place) → BeginsText (front ++ t ∷ [])
     by (before, x, rest, split, shows, place) = at before x shows place (stands before front rest x t trial.end (sym split ∙ trial.is))
 
 -- a token elsewhere doesn't fit
 pub trial_refused : (front : List Token) (t : Token) (tokens : List Token) (place : Place) → IsTrial front t tokens → IsGrammarRefusal tokens (Some (Unexpected, place))
-    → (place ≡ nowhere → ⊥) → BeginsText (front ++ t ∷ []) → ⊥
+    → (place ≡ zero_place → ⊥) → BeginsText (front ++ t ∷ []) → ⊥
 trial_refused front t tokens place trial is elsewhere begins = by (refused_parts tokens Unexpected place is)
   where
     at : (before : List Token) (x : Token) → ShowsMisfit Unexpected before x → x.place ≡ place → Stands x front t trial.end before → ⊥
@@ -159,11 +159,11 @@ pub refusal_begins : (tokens : List Token) (r : Refusal) → Parsed tokens (Err 
 refusal_begins tokens r (TooDeep, rule, is) =
     subst (λ x. BeginsIf tokens (moves_on x r.place)) (sym rule) (λ front t trial. deep_refused front t tokens r.place trial is)
 refusal_begins tokens r (Unexpected, rule, is) =
-    subst (λ x. BeginsIf tokens (moves_on x r.place)) (sym rule) (by (same_place r.place nowhere) refl)
+    subst (λ x. BeginsIf tokens (moves_on x r.place)) (sym rule) (by (same_place r.place zero_place) refl)
   where
-    by : (b : Bool) → same_place r.place nowhere ≡ b → BeginsIf tokens b
-    by true at = λ front t trial. end_refused front t tokens trial (subst (λ p. IsGrammarRefusal tokens (Some (Unexpected, p))) ((place_same r.place nowhere).0 at) is)
-    by false at = λ front t trial. trial_refused front t tokens r.place trial is (λ here. true≢false (sym ((place_same r.place nowhere).1 here) ∙ at))
+    by : (b : Bool) → same_place r.place zero_place ≡ b → BeginsIf tokens b
+    by true at = λ front t trial. end_refused front t tokens trial (subst (λ p. IsGrammarRefusal tokens (Some (Unexpected, p))) ((place_same r.place zero_place).0 at) is)
+    by false at = λ front t trial. trial_refused front t tokens r.place trial is (λ here. true≢false (sym ((place_same r.place zero_place).1 here) ∙ at))
 
 pub tree_begins : (tokens : List Token) (tree : TextTree) → Spells tokens tree → BeginsIf tokens true
 tree_begins tokens tree spells = λ front t trial. parsed_begins front t tokens tree trial spells
@@ -176,8 +176,8 @@ kind_then one text tokens short is (Some kind) (t, end, same, own) = (t, (end, r
 
 -- one text, for which the parser was asked
 pub tried_then : ((text : List ℕ) (a b : List Token) → IsTokenized text a → IsTokenized text b → a ≡ b) → (front : List Token) (at : Place) (text : List ℕ) (kind : TokenKind)
-    (tokens : List Token) (b : Bool) (before after : List Reason) → IsFront front → (at ≡ nowhere → ⊥) → IsKindOf text (Some kind)
-    → tokens ≡ front ++ (record { kind = kind; place = at } ∷ record { kind = k.End; place = nowhere } ∷ []) → BeginsIf tokens b
+    (tokens : List Token) (b : Bool) (before after : List RefusalReason) → IsFront front → (at ≡ zero_place → ⊥) → IsKindOf text (Some kind)
+    → tokens ≡ front ++ (record { kind = kind; place = at } ∷ record { kind = k.End; place = zero_place } ∷ []) → BeginsIf tokens b
     → after ≡ (if b then before ++ expected_reason at text ∷ [] else before) → Tries front at text before after
 tried_then one front at text kind tokens true before after is_front placed (t, is_token, own) same begins is =
     inl (
@@ -186,7 +186,7 @@ tried_then one front at text kind tokens true before after is_front placed (t, i
         is_token,
         subst (λ z. BeginsText (front ++ record { kind = z; place = at } ∷ [])) (sym own)
             (begins front (record { kind = kind; place = at })
-            (record { is_front = is_front; placed = placed; end = record { kind = k.End; place = nowhere }; at_end = refl; is = same })),
+            (record { is_front = is_front; placed = placed; end = record { kind = k.End; place = zero_place }; at_end = refl; is = same })),
       ),
       is,
     )
@@ -196,19 +196,19 @@ tried_then one front at text kind tokens false before after is_front placed (t, 
     never (u, other, some) =
         let alike : u ≡ t = same_head u t (other.0 ∷ []) (is_token.0 ∷ []) (one text (u ∷ other.0 ∷ []) (t ∷ is_token.0 ∷ []) other.1.tokenized is_token.1.tokenized) in
         begins front (record { kind = kind; place = at })
-        (record { is_front = is_front; placed = placed; end = record { kind = k.End; place = nowhere }; at_end = refl; is = same })
+        (record { is_front = is_front; placed = placed; end = record { kind = k.End; place = zero_place }; at_end = refl; is = same })
         (subst (λ z. BeginsText (front ++ record { kind = z; place = at } ∷ [])) (ap (λ (z : Token). z.kind) alike ∙ own) some)
 
-pub no_token : (front : List Token) (at : Place) (text : List ℕ) (before : List Reason) → IsKindOf text None → Tries front at text before before
+pub no_token : (front : List Token) (at : Place) (text : List ℕ) (before : List RefusalReason) → IsKindOf text None → Tries front at text before before
 no_token front at text before never = inr (λ can. never can.0 can.1, refl)
 
 -- the list of a trial ends with End
-pub trial_ends : (front : List Token) (t : Token) (tokens : List Token) → tokens ≡ front ++ (t ∷ record { kind = k.End; place = nowhere } ∷ []) → EndsAtEnd tokens
+pub trial_ends : (front : List Token) (t : Token) (tokens : List Token) → tokens ≡ front ++ (t ∷ record { kind = k.End; place = zero_place } ∷ []) → EndsAtEnd tokens
 trial_ends front t tokens is =
-    (front ++ t ∷ [], record { kind = k.End; place = nowhere }, is ∙ sym (append_assoc front (t ∷ []) (record { kind = k.End; place = nowhere } ∷ [])), refl)
+    (front ++ t ∷ [], record { kind = k.End; place = zero_place }, is ∙ sym (append_assoc front (t ∷ []) (record { kind = k.End; place = zero_place } ∷ [])), refl)
 
 -- one text more
-pub one_text_more : (front : List Token) (at : Place) (texts : List (List ℕ)) (text : List ℕ) (before after : List Reason) → AreExpected front at texts before → Tries front at text before after
+pub one_text_more : (front : List Token) (at : Place) (texts : List (List ℕ)) (text : List ℕ) (before after : List RefusalReason) → AreExpected front at texts before → Tries front at text before after
     → AreExpected front at (texts ++ text ∷ []) after
 one_text_more front at texts text before after so_far (inl (can, is)) = subst (AreExpected front at (texts ++ text ∷ [])) (sym is) (can_stand text so_far can)
 one_text_more front at texts text before after so_far (inr (never, is)) = subst (AreExpected front at (texts ++ text ∷ [])) (sym is) (cannot_stand text so_far never)
@@ -230,11 +230,11 @@ is_somewhere s b false e is = true≢false (sym is)
 
 fits_index : (at : Place) (index number : ℕ) (place : Place) → fits_position at index number place ≡ true → place ≡ at → number ≡ index
 fits_index at index number place fits here =
-    (Decides-eqb number index).0 (is_index (same_place place at) (number == index) (same_place place nowhere) fits ((place_same place at).1 here))
+    (Decides-eqb number index).0 (is_index (same_place place at) (number == index) (same_place place zero_place) fits ((place_same place at).1 here))
 
-fits_somewhere : (at : Place) (index number : ℕ) (place : Place) → fits_position at index number place ≡ true → place ≡ nowhere → ⊥
+fits_somewhere : (at : Place) (index number : ℕ) (place : Place) → fits_position at index number place ≡ true → place ≡ zero_place → ⊥
 fits_somewhere at index number place fits here =
-    is_somewhere (same_place place at) (number == index) (same_place place nowhere) fits ((place_same place nowhere).1 here)
+    is_somewhere (same_place place at) (number == index) (same_place place zero_place) fits ((place_same place zero_place).1 here)
 
 -- what is known of the token that is refused
 pub record Refused (tokens : List Token) (at : Place) : Type 0 where
@@ -274,7 +274,7 @@ pub alone_within : (tokens : List Token) (at : Place) (index : ℕ) (r : Refused
 alone_within tokens at index r alone =
     omega (arith, slice_get_within tokens (length r.front) r.here (there tokens at r), alone_index tokens at index r alone)
 
-pub alone_placed : (tokens : List Token) (at : Place) (index : ℕ) (r : Refused tokens at) → IsAlone tokens at index → at ≡ nowhere → ⊥
+pub alone_placed : (tokens : List Token) (at : Place) (index : ℕ) (r : Refused tokens at) → IsAlone tokens at index → at ≡ zero_place → ⊥
 alone_placed tokens at index r alone here =
     fits_somewhere at index (length r.front) r.here.place (alone (length r.front) r.here (there tokens at r)) (r.at_place ∙ here)
 
@@ -293,7 +293,7 @@ alone_is_front tokens at index r alone = subst IsFront (sym (alone_front tokens 
         slice_get_read (xs ++ ys) (length (xs ++ ys)) k t refl (omega (arith, lt, length-append xs ys))
         (sym (get_or_append_left xs ys t k lt ∙ get_or_from_slice_get xs k t t is))
 
-pub tried_all : (tokens : List Token) (at : Place) (index : ℕ) (texts : List (List ℕ)) (reasons : List Reason) (r : Refused tokens at) → IsAlone tokens at index → texts ≡ token_texts
+pub tried_all : (tokens : List Token) (at : Place) (index : ℕ) (texts : List (List ℕ)) (reasons : List RefusalReason) (r : Refused tokens at) → IsAlone tokens at index → texts ≡ token_texts
     → AreExpected (take index tokens) at texts reasons → AreUnexpectedReasons tokens at reasons
 tried_all tokens at index texts reasons r alone is expected =
     tried r.front r.rest r.here r.is r.at_place r.shows
@@ -323,7 +323,7 @@ pub all_before : (tokens : List Token) (at : Place) (index i : ℕ) → length t
 all_before tokens at index i le before = λ k u is. before k u (omega (arith, slice_get_within tokens k u is)) is
 
 -- all texts
-pub tried_then_all : (tokens : List Token) (at : Place) (index : ℕ) (texts : List (List ℕ)) (o : Result (Vec Reason Global) Memory) (r : Refused tokens at) → IsAlone tokens at index
+pub tried_then_all : (tokens : List Token) (at : Place) (index : ℕ) (texts : List (List ℕ)) (o : Result (Vec RefusalReason Global) Memory) (r : Refused tokens at) → IsAlone tokens at index
     → texts ≡ token_texts → IfOk o (λ v. AreExpected (take index tokens) at texts v.items) → IfOk o (λ v. AreUnexpectedReasons tokens at v.items)
 tried_then_all tokens at index texts (Ok v) r alone is expected = tried_all tokens at index texts v.items r alone is expected
 tried_then_all tokens at index texts (Err e) r alone is expected = expected
@@ -332,7 +332,7 @@ tried_then_all tokens at index texts (Err e) r alone is expected = expected
 pub texts_more : {X : Type 0} (f : X → List ℕ) (words : List X) (i : ℕ) (d : X) → i < length words → map f (take (i + 1) words) ≡ map f (take i words) ++ f (get_or words i d) ∷ []
 texts_more f words i d lt = ap (map f) (take_more words i d lt) ∙ map-append f (take i words) (get_or words i d ∷ [])
 
-pub text_step : {X : Type 0} (f : X → List ℕ) (words : List X) (i : ℕ) (d : X) (front other : List Token) (at : Place) (before after : List Reason) → i < length words → other ≡ front
+pub text_step : {X : Type 0} (f : X → List ℕ) (words : List X) (i : ℕ) (d : X) (front other : List Token) (at : Place) (before after : List RefusalReason) → i < length words → other ≡ front
     → AreExpected front at (map f (take i words)) before → Tries other at (f (get_or words i d)) before after → AreExpected front at (map f (take (i + 1) words)) after
 text_step f words i d front other at before after lt same so_far step =
     subst (λ l. AreExpected front at l after) (sym (texts_more f words i d lt))

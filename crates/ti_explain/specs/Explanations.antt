@@ -15,35 +15,35 @@ use Rattle.ti_rules.specs.Refusals.{IsFirstRefusal}
 use Rattle.ti_rules.specs.TypeRules.{type_refusals}
 use Rattle.ti_rules.specs.SingleRules.{single_refusals}
 use Rattle.ti_rules.specs.RefusalOf.{HasNone, HasTokens, HasTree, IsRefusal}
-use Rattle.ti_explain.specs.declared.reason.Reason.{Reason}
+use Rattle.ti_explain.specs.declared.reason.RefusalReason.{RefusalReason}
 use Rattle.ti_explain.specs.declared.reason.Explanation.{Explanation}
 use Rattle.ti_explain.specs.Expected.{AreUnexpectedReasons}
 use Rattle.ti_explain.specs.SingleReasons.{AreSingleReasons}
 
 -- the reasons for the first refusal of a program by the rules of types and qualifiers, or else by those of single values
-pub data AreProgramReasons (p : ProgramView) (refusal : Refusal) : List Reason → Type 0 where
+pub data AreProgramReasons (p : ProgramView) (refusal : Refusal) : List RefusalReason → Type 0 where
   of_types : IsFirstRefusal (Contains (type_refusals p)) refusal → AreProgramReasons p refusal []
-  of_single : {reasons : List Reason} → type_refusals p ≡ [] → IsFirstRefusal (Contains (single_refusals p)) refusal
+  of_single : {reasons : List RefusalReason} → type_refusals p ≡ [] → IsFirstRefusal (Contains (single_refusals p)) refusal
       → AreSingleReasons p refusal reasons → AreProgramReasons p refusal reasons
 
 -- the reasons for the refusal of a tree by the rules of names, or else of its program
-pub data AreTreeReasons (tree : TextTree) (refusal : Refusal) : List Reason → Type 0 where
+pub data AreTreeReasons (tree : TextTree) (refusal : Refusal) : List RefusalReason → Type 0 where
   of_names : IsFirstRefusal (BreaksNames tree) refusal → AreTreeReasons tree refusal []
-  of_program : {program : ProgramView} {reasons : List Reason} → HasNone (BreaksNames tree) → Numbers tree program
+  of_program : {program : ProgramView} {reasons : List RefusalReason} → HasNone (BreaksNames tree) → Numbers tree program
       → AreProgramReasons program refusal reasons → AreTreeReasons tree refusal reasons
 
 -- the reasons for the refusal of a list of tokens that doesn't fit the grammar
-pub data AreTokenReasons (tokens : List Token) (refusal : Refusal) : List Reason → Type 0 where
-  of_unexpected : {reasons : List Reason} → refusal.rule ≡ G1 → AreUnexpectedReasons tokens refusal.place reasons
+pub data AreTokenReasons (tokens : List Token) (refusal : Refusal) : List RefusalReason → Type 0 where
+  of_unexpected : {reasons : List RefusalReason} → refusal.rule ≡ G1 → AreUnexpectedReasons tokens refusal.place reasons
       → AreTokenReasons tokens refusal reasons
   of_depth : refusal.rule ≡ G2 → IsGrammarRefusal tokens (Some (TooDeep, refusal.place)) → AreTokenReasons tokens refusal []
 
 -- the reasons for the refusal of a text
-pub data AreReasons (text : List ℕ) (refusal : Refusal) : List Reason → Type 0 where
+pub data AreReasons (text : List ℕ) (refusal : Refusal) : List RefusalReason → Type 0 where
   of_bytes : IsLexicalRefusal text refusal → AreReasons text refusal []
-  of_tokens : {tokens : List Token} {reasons : List Reason} → HasTokens text tokens → AreTokenReasons tokens refusal reasons
+  of_tokens : {tokens : List Token} {reasons : List RefusalReason} → HasTokens text tokens → AreTokenReasons tokens refusal reasons
       → AreReasons text refusal reasons
-  of_tree : {tree : TextTree} {reasons : List Reason} → HasTree text tree → AreTreeReasons tree refusal reasons
+  of_tree : {tree : TextTree} {reasons : List RefusalReason} → HasTree text tree → AreTreeReasons tree refusal reasons
       → AreReasons text refusal reasons
 
 -- None if the text has no refusal, else its refusal with the reasons for it; out of memory is always possible

@@ -16,7 +16,7 @@ use Rattle.ti_rules.specs.StmtInContext.{StmtContext, StmtInContext, scope_of, s
 use Rattle.ti_rules.specs.SingleRules.{effect_refusals, result_refusals, standing_single_refusals}
 use Rattle.ti_explain.specs.declared.reason.PlainPart.{PlainPart}
 use Rattle.ti_explain.specs.declared.reason.EffectAt.{EffectAt}
-use Rattle.ti_explain.specs.declared.reason.Reason.{Reason}
+use Rattle.ti_explain.specs.declared.reason.RefusalReason.{RefusalReason}
 use Rattle.ti_explain.specs.declared.reason.ReasonKind.TheVariants.{Plain, Effect, PlainMethod}
 use Rattle.ti_explain.specs.PlainParts.{plain_part, plain_whole, plain_initial}
 use Rattle.ti_explain.specs.FirstEffects.{first_effect, first_effect_of_all, loop_effect}
@@ -100,31 +100,31 @@ module _ (p : ProgramView) (around : StmtContext) where
 
 -- ---- reasons
 
-abbrev pub plain_reason : Option PlainPart → List Reason
+abbrev pub plain_reason : Option PlainPart → List RefusalReason
 plain_reason None = []
 plain_reason (Some part) = record { place = part.place; kind = Plain part.cause } ∷ []
 
-abbrev pub effect_reason : Option EffectAt → List Reason
+abbrev pub effect_reason : Option EffectAt → List RefusalReason
 effect_reason None = []
 effect_reason (Some found) = record { place = found.place; kind = Effect found.effect } ∷ []
 
 -- the reasons why this statement is refused: the part that is plain, and the effect that wants it to be single
-abbrev pub statement_reasons : ProgramView → StmtInContext → Refusal → List Reason
+abbrev pub statement_reasons : ProgramView → StmtInContext → Refusal → List RefusalReason
 statement_reasons p x refusal =
     plain_reason (plain_for p x.around refusal.rule refusal.place x.statement) ++ effect_reason (effect_inside p x.around x.statement)
 
 -- the refusals of the head of a method: global effects without `single`, and a single result without it
-abbrev pub head_refusals : ProgramView → NumberedMethod → List Refusal
-head_refusals p m = effect_refusals p m ++ result_refusals m.is_single m.result
+abbrev pub single_head_refusals : ProgramView → NumberedMethod → List Refusal
+single_head_refusals p m = effect_refusals p m ++ result_refusals m.is_single m.result
 
 -- the reasons why the head of a method is refused: for S6 the first effect in its body, for S9 that the method isn't single
-abbrev pub method_reasons : ProgramView → NumberedMethod → Rule → List Reason
-method_reasons p m S6 = effect_reason (first_effect_of_all p m false (numbered_stms m.body))
-method_reasons p m rule = record { place = m.place; kind = PlainMethod } ∷ []
+abbrev pub head_reasons : ProgramView → NumberedMethod → Rule → List RefusalReason
+head_reasons p m S6 = effect_reason (first_effect_of_all p m false (numbered_stms m.body))
+head_reasons p m rule = record { place = m.place; kind = PlainMethod } ∷ []
 
 -- these are the reasons for a refusal by the rules of single values: those of a statement, or of a method, that is refused so
-pub data AreSingleReasons (p : ProgramView) (refusal : Refusal) : List Reason → Type 0 where
+pub data AreSingleReasons (p : ProgramView) (refusal : Refusal) : List RefusalReason → Type 0 where
   of_statement : {x : StmtInContext} → Contains (standing_in p) x → Contains (standing_single_refusals p x) refusal
       → AreSingleReasons p refusal (statement_reasons p x refusal)
-  of_head : {m : NumberedMethod} → Contains p.methods m → Contains (head_refusals p m) refusal
-      → AreSingleReasons p refusal (method_reasons p m refusal.rule)
+  of_head : {m : NumberedMethod} → Contains p.methods m → Contains (single_head_refusals p m) refusal
+      → AreSingleReasons p refusal (head_reasons p m refusal.rule)

@@ -3,10 +3,10 @@ ghost use Rattle.std.specs.Prelude.{◌≡◌, ◌≤◌, ◌++◌, ◌∷◌, [
 ghost use Rattle.ti_syntax.specs.declared.token.TokenKind.TheVariants.{End};
 ghost use Rattle.ti_parse_expr.specs.Answers.{EndsAtEnd};
 ghost use Rattle.ti_syntax.specs.Spelling.{Unexpected, IsGrammarRefusal};
-ghost use Rattle.ti_explain.specs.Expected.{nowhere, fits_position, expected_reason, AreExpected, AreUnexpectedReasons};
+ghost use Rattle.ti_explain.specs.Expected.{zero_place, fits_position, expected_reason, AreExpected, AreUnexpectedReasons};
 ghost use Rattle.ti_explain.specs.Mirrors.Trials.{IsOnly, IsKindOf, IsFront, moves_on, BeginsIf, Tries, IsFirstAt, AloneIf};
 
-use crate::reason::{Reason, ReasonKind};
+use crate::reason::{ReasonKind, RefusalReason};
 use std::alloc::Global;
 use ti_base::{Memory, Place};
 use ti_lex::{LexErr, lex, one_reading};
@@ -111,8 +111,8 @@ const TOKEN_TEXTS: [&str; 92] = [
 ];
 
 // No token of a text is here.
-fn nowhere() -> Place
-    ensures { result ≡ nowhere }
+fn zero_place() -> Place
+    ensures { result ≡ zero_place }
 {
     Place { line: 0, col: 0 }
 }
@@ -151,14 +151,14 @@ fn trial(
     place: Place,
 ) -> Result<Vec<Token>, Memory>
     ensures { IfOk result (λ v. v.items ≡ take index tokens.items ++ (record { kind = kind; place = place }
-        ∷ record { kind = End; place = nowhere } ∷ [])) }
+        ∷ record { kind = End; place = zero_place } ∷ [])) }
 {
     let mut found = tokens;
     found.truncate(index);
     found.push(Token { kind, place })?;
     found.push(Token {
         kind: TokenKind::End,
-        place: nowhere(),
+        place: zero_place(),
     })?;
     Ok(found)
 }
@@ -168,7 +168,7 @@ fn moves_on(refusal: Refusal) -> bool
     ensures { result ≡ moves_on refusal.rule refusal.place }
 {
     match refusal.rule {
-        Rule::G1 => refusal.place == nowhere(),
+        Rule::G1 => refusal.place == zero_place(),
         _ => true,
     }
 }
@@ -191,7 +191,7 @@ fn begins_text(alloc: Global, tokens: &[Token]) -> Result<bool, Memory>
 #[derive(Drop)]
 struct Trials {
     tokens: Vec<Token>,
-    reasons: Vec<Reason>,
+    reasons: Vec<RefusalReason>,
 }
 
 // Adds the reason for this text if its token can follow the tokens before the index.
@@ -204,7 +204,7 @@ fn try_text(
 ) -> Result<Trials, Memory>
     requires within { index ≤ length trials.tokens.items }
     requires front { IsFront (take index trials.tokens.items) }
-    requires place { place ≡ nowhere → ⊥ }
+    requires place { place ≡ zero_place → ⊥ }
     ensures within { IfOk result (λ t. index ≤ length t.tokens.items) }
     ensures front { IfOk result (λ t. take index t.tokens.items ≡ take index trials.tokens.items) }
     ensures tried { IfOk result (λ t. Tries (take index trials.tokens.items) place text.now trials.reasons.items t.reasons.items) }
@@ -226,16 +226,16 @@ fn try_text(
 fn add_if(
     alloc: Global,
     test: bool,
-    reasons: Vec<Reason>,
+    reasons: Vec<RefusalReason>,
     place: Place,
     text: &str,
-) -> Result<Vec<Reason>, Memory>
+) -> Result<Vec<RefusalReason>, Memory>
     ensures { IfOk result (λ v. v.items ≡ (if test then reasons.items ++ expected_reason place text.now ∷ [] else reasons.items)) }
 {
     let mut found = reasons;
     if test {
         let text = Spelled::new(text.as_bytes().to_vec(alloc)?);
-        found.push(Reason {
+        found.push(RefusalReason {
             place,
             kind: ReasonKind::Expected(text),
         })?;
@@ -250,10 +250,10 @@ fn try_all(
     index: usize,
     place: Place,
     texts: &[&'static str],
-) -> Result<Vec<Reason>, Memory>
+) -> Result<Vec<RefusalReason>, Memory>
     requires within { index ≤ length tokens.items }
     requires front { IsFront (take index tokens.items) }
-    requires place { place ≡ nowhere → ⊥ }
+    requires place { place ≡ zero_place → ⊥ }
     ensures { IfOk result (λ v. AreExpected (take index tokens.items) place (map (λ text. text.now) texts.now) v.items) }
 {
     let mut trials = Trials {
@@ -286,7 +286,7 @@ fn fits_position(own: Place, place: Place, number: usize, index: usize) -> bool
 {
     let is_index = number == index;
     let fits = if own == place { is_index } else { !is_index };
-    fits && own != nowhere()
+    fits && own != zero_place()
 }
 
 // Whether token number `index` is the only one at this position, and none is nowhere.
@@ -303,7 +303,11 @@ fn is_alone(tokens: &[Token], place: Place, index: usize) -> bool
 
 /// The texts of tokens that could stand in the place of the first one that no program can have there, each as a reason at that position;
 /// none if another token is at the same position, which no text has.
-pub fn expected(alloc: Global, tokens: Vec<Token>, place: Place) -> Result<Vec<Reason>, Memory>
+pub fn expected(
+    alloc: Global,
+    tokens: Vec<Token>,
+    place: Place,
+) -> Result<Vec<RefusalReason>, Memory>
     requires { IsGrammarRefusal tokens.items (Some (Unexpected, place)) }
     ensures { IfOk result (λ v. AreUnexpectedReasons tokens.items place v.items) }
 {

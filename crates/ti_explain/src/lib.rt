@@ -13,4 +13,6 @@ mod statement;
 
 pub use laws::{effects_are_named, plain_parts_are_named};
 pub use phases::explain;
-pub use reason::{EffectAt, Explanation, GlobalEffect, PlainCause, PlainPart, Reason, ReasonKind};
+pub use reason::{
+    EffectAt, Explanation, GlobalEffect, PlainCause, PlainPart, ReasonKind, RefusalReason,
+};

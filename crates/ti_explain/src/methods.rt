@@ -8,11 +8,11 @@ ghost use Rattle.ti_rules.specs.Refusals.{IsFirstRefusal};
 ghost use Rattle.ti_rules.specs.SingleRules.{word_refusals, result_refusals, effect_refusals, single_refusals};
 ghost use Rattle.ti_rules.specs.StmtInContext.{around_method, standing_in_method};
 ghost use Rattle.ti_single.specs.Contexts.{program_at, around_of};
-ghost use Rattle.ti_explain.specs.SingleReasons.{method_reasons, head_refusals, AreSingleReasons};
+ghost use Rattle.ti_explain.specs.SingleReasons.{head_reasons, single_head_refusals, AreSingleReasons};
 ghost use Rattle.ti_explain.specs.Mirrors.Found.{IsFoundInHead, IsFoundInMethod, IsFoundAt};
 
 use crate::effects::first_effect_of_all;
-use crate::reason::{Reason, ReasonKind};
+use crate::reason::{ReasonKind, RefusalReason};
 use crate::search::{found_among, is_refused_as};
 use crate::statement::push_effect;
 use std::alloc::Global;
@@ -73,7 +73,7 @@ fn effects(program: &Program, method: &Method) -> Option<Refusal>
 // The first broken rule of single values in the head of a method.
 #[tactic(auto, using(ti_rules::proofs::Lemmas::firsts))]
 fn head_refusal(program: &Program, method: &Method) -> Option<Refusal>
-    ensures { result ≡ earliest (head_refusals (program_of program.now.parts) (numbered_method_of method.now)) }
+    ensures { result ≡ earliest (single_head_refusals (program_of program.now.parts) (numbered_method_of method.now)) }
 {
     earlier_of(
         effects(program, method),
@@ -82,8 +82,12 @@ fn head_refusal(program: &Program, method: &Method) -> Option<Refusal>
 }
 
 // The reasons why the head of a method is refused.
-fn method_reasons(alloc: Global, site: SingleContext<'_>, rule: Rule) -> Result<Vec<Reason>, Memory>
-    ensures { IfOk result (λ v. v.items ≡ method_reasons (program_at site.entry) (around_of site.entry).method rule) }
+fn head_reasons(
+    alloc: Global,
+    site: SingleContext<'_>,
+    rule: Rule,
+) -> Result<Vec<RefusalReason>, Memory>
+    ensures { IfOk result (λ v. v.items ≡ head_reasons (program_at site.entry) (around_of site.entry).method rule) }
 {
     let mut found = Vec::new(alloc);
     match rule {
@@ -94,7 +98,7 @@ fn method_reasons(alloc: Global, site: SingleContext<'_>, rule: Rule) -> Result<
             )
         }
         _ => {
-            found.push(Reason {
+            found.push(RefusalReason {
                 place: site.method.place,
                 kind: ReasonKind::PlainMethod,
             })?;
@@ -125,11 +129,11 @@ fn found_in_head(
     alloc: Global,
     refusal: Refusal,
     site: SingleContext<'_>,
-) -> Result<Option<Vec<Reason>>, Memory>
+) -> Result<Option<Vec<RefusalReason>>, Memory>
     ensures { IfOk result (λ o. IsFoundInHead (program_at site.entry) refusal (around_of site.entry).method o) }
 {
     if is_refused_as(head_refusal(site.program, site.method), refusal) {
-        Ok(Some(method_reasons(alloc, site, refusal.rule)?))
+        Ok(Some(head_reasons(alloc, site, refusal.rule)?))
     } else {
         Ok(None)
     }
@@ -140,7 +144,7 @@ fn found_in_site(
     alloc: Global,
     refusal: Refusal,
     site: SingleContext<'_>,
-) -> Result<Option<Vec<Reason>>, Memory>
+) -> Result<Option<Vec<RefusalReason>>, Memory>
     requires { around_of site ≡ around_method (around_of site).method }
     ensures { IfOk result (λ o. IsFoundInMethod (program_at site.entry) refusal (around_of site.entry).method o) }
 {
@@ -182,7 +186,7 @@ fn found_in_method(
     refusal: Refusal,
     program: &Program,
     index: usize,
-) -> Result<Option<Vec<Reason>>, Memory>
+) -> Result<Option<Vec<RefusalReason>>, Memory>
     requires { index < length program.now.parts.methods.items }
     ensures { IfOk result (λ o. IsFoundAt (program_of program.now.parts) refusal index o) }
 {
@@ -197,7 +201,7 @@ pub fn single_reasons(
     alloc: Global,
     program: &Program,
     refusal: Refusal,
-) -> Result<Vec<Reason>, Memory>
+) -> Result<Vec<RefusalReason>, Memory>
     requires { IsFirstRefusal (Contains (single_refusals (program_of program.now.parts))) refusal }
     ensures { IfOk result (λ v. AreSingleReasons (program_of program.now.parts) refusal v.items) }
 {

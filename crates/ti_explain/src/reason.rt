@@ -89,7 +89,7 @@ pub enum ReasonKind {
 
 /// A reason for a refusal: a position in the text, and what is there.
 #[derive(Debug, Drop)]
-pub struct Reason {
+pub struct RefusalReason {
     pub place: Place,
     pub kind: ReasonKind,
 }
@@ -99,5 +99,5 @@ pub struct Reason {
 #[derive(Drop)]
 pub struct Explanation {
     pub refusal: Refusal,
-    pub reasons: Vec<Reason>,
+    pub reasons: Vec<RefusalReason>,
 }

@@ -15,7 +15,7 @@ ghost use Rattle.ti_single.specs.Mirrors.Maybe.{maybe_in};
 ghost use Rattle.ti_explain.specs.Mirrors.Found.{IsFound, in_this_loop, nested};
 
 use crate::effects::jump_has_inside;
-use crate::reason::Reason;
+use crate::reason::RefusalReason;
 use crate::statement::statement_reasons;
 use std::alloc::Global;
 use ti_base::Memory;
@@ -146,7 +146,7 @@ fn found_here(
     refusal: Refusal,
     site: SingleContext<'_>,
     stmt: &Stmt,
-) -> Result<Option<Vec<Reason>>, Memory>
+) -> Result<Option<Vec<RefusalReason>>, Memory>
     ensures { IfOk result (λ o. IsFound (program_at site.entry) refusal (stands (around_of site.entry) (statement_of stmt.now) ∷ []) o) }
 {
     let own = stmt_effects(site.program, this_of(site.method), stmt);
@@ -165,7 +165,7 @@ pub fn found_among(
     refusal: Refusal,
     site: SingleContext<'_>,
     stmts: &[Stmt],
-) -> Result<Option<Vec<Reason>>, Memory>
+) -> Result<Option<Vec<RefusalReason>>, Memory>
     ensures { IfOk result (λ o. IsFound (program_at site.entry) refusal (inside_all (program_at site.entry) (around_of site.entry)
         (numbered_stms (map statement_of stmts.now))) o) }
 {
@@ -183,7 +183,7 @@ fn found_in_maybe(
     refusal: Refusal,
     site: SingleContext<'_>,
     stmt: &Option<Box<Stmt>>,
-) -> Result<Option<Vec<Reason>>, Memory>
+) -> Result<Option<Vec<RefusalReason>>, Memory>
     ensures { IfOk result (λ o. IsFound (program_at site.entry) refusal (inside_maybe (program_at site.entry) (around_of site.entry)
         (maybe_in stmt.now)) o) }
 {
@@ -199,7 +199,7 @@ fn found_in(
     refusal: Refusal,
     site: SingleContext<'_>,
     stmt: &Stmt,
-) -> Result<Option<Vec<Reason>>, Memory>
+) -> Result<Option<Vec<RefusalReason>>, Memory>
     ensures { IfOk result (λ o. IsFound (program_at site.entry) refusal (inside (program_at site.entry) (around_of site.entry)
         (statement_of stmt.now)) o) }
 {
@@ -216,7 +216,7 @@ fn found_nested(
     refusal: Refusal,
     site: SingleContext<'_>,
     stmt: &Stmt,
-) -> Result<Option<Vec<Reason>>, Memory>
+) -> Result<Option<Vec<RefusalReason>>, Memory>
     ensures { IfOk result (λ o. IsFound (program_at site.entry) refusal (nested (program_at site.entry) (around_of site.entry)
         (statement_of stmt.now)) o) }
 {

@@ -11,7 +11,7 @@ ghost use Rattle.ti_explain.specs.SingleReasons.{root_of_whole, root_of_initial,
 
 use crate::effects::{first_effect, loop_effect};
 use crate::plain::{plain_initial, plain_part, plain_whole};
-use crate::reason::{EffectAt, PlainPart, Reason, ReasonKind};
+use crate::reason::{EffectAt, PlainPart, ReasonKind, RefusalReason};
 use std::alloc::Global;
 use ti_base::{Memory, Place};
 use ti_lang::program::{Expr, Init, Stmt};
@@ -240,12 +240,15 @@ fn effect_inside(site: SingleContext<'_>, stmt: &Stmt) -> Option<EffectAt>
 // ---- reasons
 
 /// Adds the reason that this part is plain, if there is one.
-pub fn push_plain(reasons: Vec<Reason>, part: Option<PlainPart>) -> Result<Vec<Reason>, Memory>
+pub fn push_plain(
+    reasons: Vec<RefusalReason>,
+    part: Option<PlainPart>,
+) -> Result<Vec<RefusalReason>, Memory>
     ensures { IfOk result (λ v. v.items ≡ reasons.items ++ plain_reason part) }
 {
     let mut found = reasons;
     if let Some(part) = part {
-        found.push(Reason {
+        found.push(RefusalReason {
             place: part.place,
             kind: ReasonKind::Plain(part.cause),
         })?;
@@ -254,12 +257,15 @@ pub fn push_plain(reasons: Vec<Reason>, part: Option<PlainPart>) -> Result<Vec<R
 }
 
 /// Adds the reason that there is this effect, if there is one.
-pub fn push_effect(reasons: Vec<Reason>, effect: Option<EffectAt>) -> Result<Vec<Reason>, Memory>
+pub fn push_effect(
+    reasons: Vec<RefusalReason>,
+    effect: Option<EffectAt>,
+) -> Result<Vec<RefusalReason>, Memory>
     ensures { IfOk result (λ v. v.items ≡ reasons.items ++ effect_reason effect) }
 {
     let mut found = reasons;
     if let Some(effect) = effect {
-        found.push(Reason {
+        found.push(RefusalReason {
             place: effect.place,
             kind: ReasonKind::Effect(effect.effect),
         })?;
@@ -274,7 +280,7 @@ pub fn statement_reasons(
     site: SingleContext<'_>,
     refusal: Refusal,
     stmt: &Stmt,
-) -> Result<Vec<Reason>, Memory>
+) -> Result<Vec<RefusalReason>, Memory>
     ensures { IfOk result (λ v. v.items ≡ statement_reasons (program_at site.entry)
         (stands (around_of site.entry) (statement_of stmt.now)) refusal) }
 {

@@ -7,7 +7,7 @@ use Rattle.std.proofs.lemmas.List.{map-append, length-map}
 use Rattle.ti_base.specs.declared.value.Value.{Value}
 use Rattle.ti_heap.specs.declared.allocation.Allocation.{Allocation}
 use Rattle.ti_heap.specs.declared.allocation.Allocation.TheVariants.{Object, Block, ViewOf, Gone}
-use Rattle.ti_heap.specs.Places.{places_from, inside}
+use Rattle.ti_heap.specs.Places.{places_from, places_in_region}
 use Rattle.ti_heap.specs.Things.{allocation_region, values_of, values_in, values_at, put_in, drop_if_in, changed_at}
 use Rattle.ti_heap.proofs.Lists.{map_changed}
 
@@ -45,13 +45,13 @@ places_more n r (q ∷ rs) s = by (eqb q r) (eqb s r) (places_more (n + 1) r rs 
     by false false e = e
 
 pub inside_more : (r : ℕ) (xs : List Allocation) (t : Allocation)
-    → inside r (xs ++ t ∷ []) ≡ last_if (eqb (allocation_region t) r) (length xs) (inside r xs)
+    → places_in_region r (xs ++ t ∷ []) ≡ last_if (eqb (allocation_region t) r) (length xs) (places_in_region r xs)
 inside_more r xs t =
     let regions = map allocation_region xs in
     let at : 0 + length regions ≡ length xs = omega (arith, length-map xs allocation_region) in
     ap (places_from 0 r) (map-append allocation_region xs (t ∷ []))
     ∙ places_more 0 r regions (allocation_region t)
-    ∙ ap (λ (k : ℕ). last_if (eqb (allocation_region t) r) k (inside r xs)) at
+    ∙ ap (λ (k : ℕ). last_if (eqb (allocation_region t) r) k (places_in_region r xs)) at
 
 -- ---- another value in a cell
 
@@ -63,7 +63,7 @@ put_region i v (ViewOf view) = refl
 put_region i v Gone = refl
 
 pub inside_put : (r n i : ℕ) (v : Value) (xs : List Allocation)
-    → inside r (changed_at n (put_in i v) xs) ≡ inside r xs
+    → places_in_region r (changed_at n (put_in i v) xs) ≡ places_in_region r xs
 inside_put r n i v xs =
     ap (places_from 0 r) (map_changed allocation_region (put_in i v) n xs (put_region i v))
 
@@ -117,13 +117,13 @@ module _ (r : ℕ) where
           }
 
   -- the next place is in the list, and the others are left when what stands there is dropped
-  pub next_place : 0 < r → (xs : List Allocation) (p : ℕ) (ps : List ℕ) → inside r xs ≡ p ∷ ps
-      → (p < length xs) × (inside r (changed_at p (drop_if_in r) xs) ≡ ps)
+  pub next_place : 0 < r → (xs : List Allocation) (p : ℕ) (ps : List ℕ) → places_in_region r xs ≡ p ∷ ps
+      → (p < length xs) × (places_in_region r (changed_at p (drop_if_in r) xs) ≡ ps)
   next_place pos xs p ps e =
       let h = first_place pos 0 xs p ps e in
       let at : h.at ≡ p = omega (arith, h.place) in (
         omega (arith, h.within, at),
-        subst (λ (k : ℕ). inside r (changed_at k (drop_if_in r) xs) ≡ ps) at h.left,
+        subst (λ (k : ℕ). places_in_region r (changed_at k (drop_if_in r) xs) ≡ ps) at h.left,
       )
 
   -- where the region has no place, nothing is dropped
@@ -181,7 +181,7 @@ module _ (r : ℕ) where
 
   -- the places of another region stay
   pub inside_kept : (q : ℕ) → (q ≡ r → ⊥) → 0 < q → (xs : List Allocation)
-      → inside q (map (drop_if_in r) xs) ≡ inside q xs
+      → places_in_region q (map (drop_if_in r) xs) ≡ places_in_region q xs
   inside_kept q apart pos xs = places_kept q apart pos 0 xs
 
   -- the dropped region has no place any more
@@ -230,7 +230,7 @@ module _ (r : ℕ) (all : List Allocation) where
 
 -- the places of a region hold the values that are in the region
 pub inside_values : (r : ℕ) (ts : List Allocation)
-    → flat_map (values_at r ts) (inside r ts) ≡ flat_map (values_in r) ts
+    → flat_map (values_at r ts) (places_in_region r ts) ≡ flat_map (values_in r) ts
 inside_values r ts = places_values r ts 0 ts
     (λ i k t e g.
     subst (λ (n : ℕ). slice_get ts n ≡ Some t) (let z : i ≡ k = omega arith in z) g)

@@ -22,12 +22,12 @@ places_from n region (r ∷ rs) =
     if r == region then n ∷ places_from (n + 1) region rs else places_from (n + 1) region rs
 
 -- the serial numbers of what is in the region
-abbrev pub inside : ℕ → List Allocation → List ℕ
-inside region things = places_from 0 region (map allocation_region things)
+abbrev pub places_in_region : ℕ → List Allocation → List ℕ
+places_in_region region things = places_from 0 region (map allocation_region things)
 
 -- the index lists the places of each region
 abbrev pub IsIndex : RegionIndex → List Allocation → Type 0
-IsIndex index things = (region : ℕ) → 0 < region → listed index region ≡ inside region things
+IsIndex index things = (region : ℕ) → 0 < region → listed index region ≡ places_in_region region things
 
 -- the cost is counted, and the regions are indexed
 pub record IsShare (cost : ℕ) (index : RegionIndex) (things : List Allocation) : Type 0 where

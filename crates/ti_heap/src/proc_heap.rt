@@ -1,7 +1,7 @@
 // What one process made, with its cost.
 
 ghost use Rattle.std.specs.Prelude.{◌≡◌, ◌+◌, ◌<◌, ◌≤◌, nat_lt, [], ◌∷◌, ◌++◌, map, length, slice_get, Some, OnOk, OnErr, IsSomeAnd};
-ghost use Rattle.ti_heap.specs.Places.{inside};
+ghost use Rattle.ti_heap.specs.Places.{places_in_region};
 ghost use Rattle.ti_heap.specs.Things.{values_of, allocation_cost, total_cost, put_in, drop_if_in, changed_at};
 
 use crate::allocation::Allocation;
@@ -38,7 +38,7 @@ impl Model for ProcHeap {
 /// Drops what is in the region, which isn't 0, where the places of all that is in it are given. The result is what it cost.
 fn drop_all(things: &mut [Allocation], region: u32, places: &[u32]) -> u64
     requires region { 0 < region }
-    requires places { places.now ≡ inside region things.old }
+    requires places { places.now ≡ places_in_region region things.old }
     requires few { total_cost things.old ≤ 1048576 }
     ensures things { things.new ≡ map (drop_if_in region) things.old }
     ensures freed { result + total_cost things.new ≡ total_cost things.old }
@@ -95,7 +95,7 @@ impl ProcHeap {
     /// The serial numbers of what is in the region, which isn't 0, in the order of making.
     pub fn places_in(&self, region: u32) -> &[u32]
         requires { 0 < region }
-        ensures { result.now ≡ inside region self.now }
+        ensures { result.now ≡ places_in_region region self.now }
     {
         let _things = &self.things;
         self.index.of(region)

@@ -5,7 +5,7 @@ use Rattle.ti_lsp.specs.declared.diagnostic.Diagnostic.{Diagnostic}
 use Rattle.ti_lsp.specs.declared.document.Document.{Document}
 use Rattle.ti_lsp.specs.declared.edit.TextEdit.{TextEdit}
 use Rattle.ti_lsp.specs.declared.position.PositionEncoding.{PositionEncoding}
-use Rattle.ti_lsp.specs.Analysis.{HasNone, IsFix}
+use Rattle.ti_lsp.specs.Analysis.{HasNoDiagnostic, IsFix}
 use Rattle.ti_lsp.specs.declared.message.ActionKind.{ActionKind}
 use Rattle.ti_lsp.specs.Diagnostics.{actions_of}
 use Rattle.ti_lsp.specs.Responses.{success_of}
@@ -17,7 +17,7 @@ use Rattle.ti_lsp.specs.declared.symbol.Symbol.{Symbol}
 
 pub fixes : (rejects : List ℕ → Diagnostic → Type 0) (document : Document) (edits : List TextEdit) (fixed : List ℕ)
     → option_map (λ v. v.items) document.suggestion ≡ Some edits → edited 0 edits (string_bytes document.text) ≡ Some fixed → IsUtf8 fixed
-    → HasNone (rejects fixed) → IsFix rejects document edits
+    → HasNoDiagnostic (rejects fixed) → IsFix rejects document edits
 fixes rejects document edits fixed stored applied text accepted =
     record { fixed = fixed; stored = stored; applied = applied; is_text = text; accepted = accepted }
 
@@ -50,10 +50,10 @@ not_text rejects document edits these fixed stored applied other is =
     other (subst IsUtf8 (same_fixed rejects document edits these fixed is stored applied) is.is_text)
 
 pub not_accepted : (rejects : List ℕ → Diagnostic → Type 0) (document : Document) (edits these : List TextEdit) (fixed : List ℕ)
-    → option_map (λ v. v.items) document.suggestion ≡ Some these → edited 0 these (string_bytes document.text) ≡ Some fixed → (HasNone (rejects fixed) → ⊥)
+    → option_map (λ v. v.items) document.suggestion ≡ Some these → edited 0 these (string_bytes document.text) ≡ Some fixed → (HasNoDiagnostic (rejects fixed) → ⊥)
     → IsFix rejects document edits → ⊥
 not_accepted rejects document edits these fixed stored applied other is =
-    other (subst (λ (t : List ℕ). HasNone (rejects t)) (same_fixed rejects document edits these fixed is stored applied) is.accepted)
+    other (subst (λ (t : List ℕ). HasNoDiagnostic (rejects t)) (same_fixed rejects document edits these fixed is stored applied) is.accepted)
 
 pub not_fixed : (rejects : List ℕ → Diagnostic → Type 0) (encoding : PositionEncoding) (uri : List ℕ) (kind : Option ActionKind) (document : Option Document)
     (opened : Document) (outcome : Data) → document ≡ Some opened → ((edits : List TextEdit) → IsFix rejects opened edits → ⊥) → outcome ≡ null

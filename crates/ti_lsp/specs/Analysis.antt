@@ -6,12 +6,12 @@ use Rattle.ti_lsp.specs.declared.edit.TextEdit.{TextEdit}
 use Rattle.ti_lsp.specs.Edits.{edited}
 
 -- there is no error
-abbrev pub HasNone : (Diagnostic → Type 0) → Type 0
-HasNone rejects = (diagnostic : Diagnostic) → rejects diagnostic → ⊥
+abbrev pub HasNoDiagnostic : (Diagnostic → Type 0) → Type 0
+HasNoDiagnostic rejects = (diagnostic : Diagnostic) → rejects diagnostic → ⊥
 
 -- this is an error, or none if there is none
 abbrev pub IsAnalysis : (Diagnostic → Type 0) → Option Diagnostic → Type 0
-IsAnalysis rejects None = HasNone rejects
+IsAnalysis rejects None = HasNoDiagnostic rejects
 IsAnalysis rejects (Some diagnostic) = rejects diagnostic
 
 -- the edits are stored with a document, and change its text to one without an error
@@ -20,4 +20,4 @@ pub record IsFix (rejects : List ℕ → Diagnostic → Type 0) (document : Docu
   pub stored : option_map (λ v. v.items) document.suggestion ≡ Some edits
   pub applied : edited 0 edits (string_bytes document.text) ≡ Some fixed
   pub is_text : IsUtf8 fixed
-  pub accepted : HasNone (rejects fixed)
+  pub accepted : HasNoDiagnostic (rejects fixed)

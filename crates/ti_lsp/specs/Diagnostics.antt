@@ -9,11 +9,11 @@ use Rattle.ti_lsp.specs.declared.message.ActionKind.{ActionKind}
 use Rattle.ti_lsp.specs.declared.message.ActionKind.TheVariants.{QuickFix, FixAll}
 use Rattle.ti_lsp.specs.declared.position.PositionEncoding.{PositionEncoding}
 use Rattle.ti_lsp.specs.declared.position.Position.{Position}
-use Rattle.ti_lsp.specs.declared.position.Range.{Range}
+use Rattle.ti_lsp.specs.declared.position.TextRange.{TextRange}
 use Rattle.ti_lsp.specs.Positions.{position_of, touches}
 
 -- the range of the bytes from one offset up to another, cut at the text's end, and empty if the end is before the start
-abbrev pub bytes_range : PositionEncoding → List ℕ → ℕ → ℕ → Range
+abbrev pub bytes_range : PositionEncoding → List ℕ → ℕ → ℕ → TextRange
 bytes_range encoding text start end =
     let from = min start (length text) in
     let to = max (min end (length text)) from in
@@ -24,7 +24,7 @@ position_data at = object
     (member (codes "character") (number (unsigned at.character))
     (member (codes "line") (number (unsigned at.line)) no_members))
 
-abbrev pub range_data : Range → Data
+abbrev pub range_data : TextRange → Data
 range_data range = object
     (member (codes "end") (position_data range.end)
     (member (codes "start") (position_data range.start) no_members))
@@ -32,7 +32,7 @@ range_data range = object
 -- ---- diagnostics
 
 -- the range of a diagnostic in its text
-abbrev pub diagnostic_range : PositionEncoding → List ℕ → Diagnostic → Range
+abbrev pub diagnostic_range : PositionEncoding → List ℕ → Diagnostic → TextRange
 diagnostic_range encoding text d = bytes_range encoding text d.start d.end
 
 -- a diagnostic of a text: an error (severity 1) with the code and the message of the rule
@@ -86,9 +86,9 @@ hover_at encoding text (Some d) at = if touches (diagnostic_range encoding text 
 
 -- ---- code actions
 
-abbrev pub kind_name : ActionKind → List ℕ
-kind_name QuickFix = codes "quickfix"
-kind_name FixAll = codes "source.fixAll"
+abbrev pub action_kind_name : ActionKind → List ℕ
+action_kind_name QuickFix = codes "quickfix"
+action_kind_name FixAll = codes "source.fixAll"
 
 -- an edit: its range, and what stands there afterwards
 abbrev pub edit_data : PositionEncoding → List ℕ → TextEdit → Data
@@ -104,5 +104,5 @@ actions_of encoding uri kind text d edits = array (item (object
     (member (codes "changes") (object
     (member uri (array (items_of (map (edit_data encoding text) edits))) no_members)) no_members))
     (member (codes "isPreferred") (boolean true)
-    (member (codes "kind") (string (kind_name kind))
+    (member (codes "kind") (string (action_kind_name kind))
     (member (codes "title") (string (codes "Insert `single` where it belongs")) no_members)))))) no_items)

@@ -2,7 +2,7 @@
 use Rattle.std.specs.Prelude.{ℕ, ◌&&◌, nat_le, max, Bool, if◌then◌else◌, List, [], ◌∷◌, ◌++◌, length, take, drop, slice_range, Option, Some, None, option_map}
 use Rattle.ti_lsp.specs.declared.edit.TextEdit.{TextEdit}
 use Rattle.ti_lsp.specs.declared.position.PositionEncoding.{PositionEncoding}
-use Rattle.ti_lsp.specs.declared.position.Range.{Range}
+use Rattle.ti_lsp.specs.declared.position.TextRange.{TextRange}
 use Rattle.ti_lsp.specs.Messages.{ChangeView}
 use Rattle.ti_lsp.specs.Positions.{offset_of}
 
@@ -23,7 +23,7 @@ edited from (e ∷ es) text =
 -- ---- changes of a client
 
 -- the text with this range, or all of it, replaced
-abbrev pub replaced : PositionEncoding → List ℕ → Option Range → List ℕ → List ℕ
+abbrev pub replaced : PositionEncoding → List ℕ → Option TextRange → List ℕ → List ℕ
 replaced encoding text None new = new
 replaced encoding text (Some range) new =
     let start = offset_of encoding range.start text in

@@ -31,7 +31,7 @@ Documents = List ℕ → Option Document
 -- ---- requests
 
 -- the request fails with this response, and the state stays
-pub record Fails (old new : State) (sent response : Data) : Type 0 where
+pub record RespondsError (old new : State) (sent response : Data) : Type 0 where
   pub same : new ≡ old
   pub sent_is : sent ≡ response
 
@@ -95,30 +95,30 @@ pub record ReturnsSymbols (id : Data) (uri : List ℕ) (document : Option Docume
 -- the response before the session is initialized
 abbrev pub Initializes : Data → State → RequestView → State → Data → Type 0
 Initializes id s (initialize encoding) t sent = (t ≡ record { phase = Running; encoding = encoding }) × (sent ≡ success_of id (capabilities_of encoding))
-Initializes id s shutdown t sent = Fails s t sent (error_of id ServerNotInitialized)
-Initializes id s (hover uri at) t sent = Fails s t sent (error_of id ServerNotInitialized)
-Initializes id s (code_action uri kind) t sent = Fails s t sent (error_of id ServerNotInitialized)
-Initializes id s (document_symbol uri) t sent = Fails s t sent (error_of id ServerNotInitialized)
-Initializes id s invalid_params t sent = Fails s t sent (error_of id ServerNotInitialized)
-Initializes id s unknown_method t sent = Fails s t sent (error_of id ServerNotInitialized)
+Initializes id s shutdown t sent = RespondsError s t sent (error_of id ServerNotInitialized)
+Initializes id s (hover uri at) t sent = RespondsError s t sent (error_of id ServerNotInitialized)
+Initializes id s (code_action uri kind) t sent = RespondsError s t sent (error_of id ServerNotInitialized)
+Initializes id s (document_symbol uri) t sent = RespondsError s t sent (error_of id ServerNotInitialized)
+Initializes id s invalid_params t sent = RespondsError s t sent (error_of id ServerNotInitialized)
+Initializes id s unknown_method t sent = RespondsError s t sent (error_of id ServerNotInitialized)
 
 -- the response of a running session
 abbrev pub Responds : (List ℕ → Diagnostic → Type 0) → Documents → Data → State → RequestView → State → Data → Type 0
-Responds rejects documents id s (initialize encoding) t sent = Fails s t sent (error_of id InvalidRequest)
+Responds rejects documents id s (initialize encoding) t sent = RespondsError s t sent (error_of id InvalidRequest)
 Responds rejects documents id s shutdown t sent = (t ≡ record { phase = ShutDown; encoding = s.encoding }) × (sent ≡ success_of id null)
 Responds rejects documents id s (hover uri at) t sent = Returns id s t sent (hover_in s.encoding (documents uri) at)
 Responds rejects documents id s (code_action uri kind) t sent = ReturnsActions rejects id uri kind (documents uri) s t sent
 Responds rejects documents id s (document_symbol uri) t sent = ReturnsSymbols id uri (documents uri) s t sent
-Responds rejects documents id s invalid_params t sent = Fails s t sent (error_of id InvalidParams)
-Responds rejects documents id s unknown_method t sent = Fails s t sent (error_of id MethodNotFound)
+Responds rejects documents id s invalid_params t sent = RespondsError s t sent (error_of id InvalidParams)
+Responds rejects documents id s unknown_method t sent = RespondsError s t sent (error_of id MethodNotFound)
 
 -- the response in a phase
 abbrev pub RespondsInPhase : Phase → (List ℕ → Diagnostic → Type 0) → Documents → Data → State → RequestView → State → Data → Type 0
 RespondsInPhase Uninitialized rejects documents id s r t sent = Initializes id s r t sent
 RespondsInPhase Running rejects documents id s r t sent = Responds rejects documents id s r t sent
-RespondsInPhase ShutDown rejects documents id s r t sent = Fails s t sent (error_of id InvalidRequest)
-RespondsInPhase Exited rejects documents id s r t sent = Fails s t sent (error_of id InvalidRequest)
-RespondsInPhase Aborted rejects documents id s r t sent = Fails s t sent (error_of id InvalidRequest)
+RespondsInPhase ShutDown rejects documents id s r t sent = RespondsError s t sent (error_of id InvalidRequest)
+RespondsInPhase Exited rejects documents id s r t sent = RespondsError s t sent (error_of id InvalidRequest)
+RespondsInPhase Aborted rejects documents id s r t sent = RespondsError s t sent (error_of id InvalidRequest)
 
 -- ---- notifications
 
@@ -199,17 +199,17 @@ UpdatesInPhase Exited rejects encoding n before after sent = Passes before after
 UpdatesInPhase Aborted rejects encoding n before after sent = Passes before after sent
 
 -- the state after a notification
-abbrev pub state_after : State → NotificationView → State
-state_after s exit = record { phase = exited s.phase; encoding = s.encoding }
-state_after s (opened uri version text) = s
-state_after s (changed uri version changes) = s
-state_after s (closed uri) = s
-state_after s other = s
+abbrev pub state_after_notification : State → NotificationView → State
+state_after_notification s exit = record { phase = exited s.phase; encoding = s.encoding }
+state_after_notification s (opened uri version text) = s
+state_after_notification s (changed uri version changes) = s
+state_after_notification s (closed uri) = s
+state_after_notification s other = s
 
 -- what is done with a notification
 pub record Receives (rejects : List ℕ → Diagnostic → Type 0) (before : Documents) (s : State) (n : NotificationView) (t : State) (after : Documents)
     (sent : Option Data) : Type 0 where
-  pub state : t ≡ state_after s n
+  pub state : t ≡ state_after_notification s n
   pub updates : UpdatesInPhase s.phase rejects s.encoding n before after sent
 
 -- ---- messages

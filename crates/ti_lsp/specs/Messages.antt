@@ -8,11 +8,11 @@ use Rattle.ti_lsp.specs.declared.message.ActionKind.TheVariants.{QuickFix, FixAl
 use Rattle.ti_lsp.specs.declared.position.PositionEncoding.{PositionEncoding}
 use Rattle.ti_lsp.specs.declared.position.PositionEncoding.TheVariants.{Utf8, Utf16, Utf32}
 use Rattle.ti_lsp.specs.declared.position.Position.{Position}
-use Rattle.ti_lsp.specs.declared.position.Range.{Range}
+use Rattle.ti_lsp.specs.declared.position.TextRange.{TextRange}
 
 -- a change of a text: of a range or of all of it, and what stands there afterwards
 pub record ChangeView : Type 0 where
-  pub range : Option Range
+  pub range : Option TextRange
   pub new_text : List ℕ
 
 -- what a request asks for
@@ -61,12 +61,12 @@ position_in d = position_from (unsigned_member (codes "line") d) (unsigned_membe
 abbrev pub position_at : List ℕ → Data → Option Position
 position_at path d = option_and_then position_in (pointer path d)
 
-abbrev pub range_from : Option Position → Option Position → Option Range
+abbrev pub range_from : Option Position → Option Position → Option TextRange
 range_from None end = None
 range_from (Some start) None = None
 range_from (Some start) (Some end) = Some (record { start = start; end = end })
 
-abbrev pub range_in : Data → Option Range
+abbrev pub range_in : Data → Option TextRange
 range_in d = range_from (position_at (codes "/start") d) (position_at (codes "/end") d)
 
 abbrev pub is_string : List ℕ → Data → Bool
@@ -132,14 +132,14 @@ opened_from (Some uri) version None = other
 opened_from None version t = other
 
 -- the range of a change; none at all if the member is there and is no range
-abbrev pub range_of_member : Option Data → Option (Option Range)
+abbrev pub range_of_member : Option Data → Option (Option TextRange)
 range_of_member None = Some None
 range_of_member (Some d) = option_map Some (range_in d)
 
-abbrev pub change_range : Data → Option (Option Range)
+abbrev pub change_range : Data → Option (Option TextRange)
 change_range d = range_of_member (get (codes "range") d)
 
-abbrev pub change_from : Option (Option Range) → Option (List ℕ) → Option ChangeView
+abbrev pub change_from : Option (Option TextRange) → Option (List ℕ) → Option ChangeView
 change_from None text = None
 change_from (Some range) None = None
 change_from (Some range) (Some text) = Some (record { range = range; new_text = text })
@@ -183,19 +183,19 @@ notification_of method params =
 abbrev pub is_id : Data → Bool
 is_id id = is_some (as_str id) || is_some (option_and_then as_i64 (as_number id)) || is_some (option_and_then as_u64 (as_number id))
 
-abbrev pub params_of : Data → Data
-params_of d = unwrap_or (get (codes "params") d) null
+abbrev pub message_params : Data → Data
+message_params d = unwrap_or (get (codes "params") d) null
 
-abbrev pub named : Option Data → List ℕ → Data → MessageView
-named None method params = notification (notification_of method params)
-named (Some id) method params = if is_id id then request id (request_of method params) else invalid
+abbrev pub request_or_notification : Option Data → List ℕ → Data → MessageView
+request_or_notification None method params = notification (notification_of method params)
+request_or_notification (Some id) method params = if is_id id then request id (request_of method params) else invalid
 
 abbrev pub is_response : Data → Bool
 is_response d = is_some (get (codes "result") d) || is_some (get (codes "error") d)
 
 abbrev pub by_name : Option (List ℕ) → Data → MessageView
 by_name None d = invalid
-by_name (Some name) d = named (get (codes "id") d) name (params_of d)
+by_name (Some name) d = request_or_notification (get (codes "id") d) name (message_params d)
 
 abbrev pub by_method : Option Data → Data → MessageView
 by_method None d = if is_response d then response else invalid

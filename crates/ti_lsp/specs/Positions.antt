@@ -3,7 +3,7 @@ use Rattle.std.specs.Prelude.{ℕ, ◌+◌, ◌-◌, ◌==◌, ◌&&◌, ◌||�
 use Rattle.ti_lsp.specs.declared.position.PositionEncoding.{PositionEncoding}
 use Rattle.ti_lsp.specs.declared.position.PositionEncoding.TheVariants.{Utf8, Utf16, Utf32}
 use Rattle.ti_lsp.specs.declared.position.Position.{Position}
-use Rattle.ti_lsp.specs.declared.position.Range.{Range}
+use Rattle.ti_lsp.specs.declared.position.TextRange.{TextRange}
 
 -- whether the byte ends a line: byte 10
 abbrev pub ends_line : ℕ → Bool
@@ -39,7 +39,7 @@ abbrev pub position_before : Position → Position → Bool
 position_before p q = nat_lt p.line q.line || ((p.line == q.line) && nat_lt p.character q.character)
 
 -- whether a position is in a range or at one of its ends
-abbrev pub touches : Range → Position → Bool
+abbrev pub touches : TextRange → Position → Bool
 touches range at = not (position_before at range.start) && not (position_before range.end at)
 
 -- ---- from positions to offsets
@@ -60,13 +60,13 @@ abbrev pub cost : PositionEncoding → ℕ → ℕ
 cost encoding b = if is_lead b then width_of encoding b else 0
 
 -- whether the byte is not among the first `units` code units of its line
-abbrev pub stops : PositionEncoding → ℕ → ℕ → Bool
-stops encoding units b = ends_line b || nat_lt units (cost encoding b)
+abbrev pub exceeds_units : PositionEncoding → ℕ → ℕ → Bool
+exceeds_units encoding units b = ends_line b || nat_lt units (cost encoding b)
 
 -- the number of bytes in the whole characters within the first `units` code units of a line
 abbrev pub units_len : PositionEncoding → ℕ → List ℕ → ℕ
 units_len encoding units [] = 0
-units_len encoding units (b ∷ bs) = if stops encoding units b then 0 else units_len encoding (units - cost encoding b) bs + 1
+units_len encoding units (b ∷ bs) = if exceeds_units encoding units b then 0 else units_len encoding (units - cost encoding b) bs + 1
 
 -- the offset of a position in a text
 abbrev pub offset_of : PositionEncoding → Position → List ℕ → ℕ

@@ -7,12 +7,12 @@ use Rattle.ti_lsp.specs.declared.response.ErrorCode.{ErrorCode}
 use Rattle.ti_lsp.specs.declared.response.ErrorCode.TheVariants.{ParseError, InvalidRequest, MethodNotFound, InvalidParams, ServerNotInitialized}
 
 -- the error codes of the protocol; `negsuc 0` is -1
-abbrev pub code_of : ErrorCode → ℤ
-code_of ParseError = negsuc 32699
-code_of InvalidRequest = negsuc 32599
-code_of MethodNotFound = negsuc 32600
-code_of InvalidParams = negsuc 32601
-code_of ServerNotInitialized = negsuc 32001
+abbrev pub error_code : ErrorCode → ℤ
+error_code ParseError = negsuc 32699
+error_code InvalidRequest = negsuc 32599
+error_code MethodNotFound = negsuc 32600
+error_code InvalidParams = negsuc 32601
+error_code ServerNotInitialized = negsuc 32001
 
 abbrev pub message_text : ErrorCode → List ℕ
 message_text ParseError = codes "the content is not JSON"
@@ -32,7 +32,7 @@ success_of id outcome = object
 abbrev pub error_of : Data → ErrorCode → Data
 error_of id error = object
     (member (codes "error") (object
-    (member (codes "code") (number (negative (code_of error)))
+    (member (codes "code") (number (negative (error_code error)))
     (member (codes "message") (string (message_text error)) no_members)))
     (member (codes "id") id
     (member (codes "jsonrpc") (string (codes "2.0")) no_members)))

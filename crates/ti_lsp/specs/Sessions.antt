@@ -4,8 +4,8 @@ use Rattle.ti_lsp.specs.declared.session.Session.{Session}
 use Rattle.ti_lsp.specs.Handling.{State, Documents}
 
 -- the phase and the position encoding
-abbrev pub state_of : {A : Type 0} → Session A → State
-state_of s = record { phase = s.phase; encoding = s.encoding }
+abbrev pub server_state_of : {A : Type 0} → Session A → State
+server_state_of s = record { phase = s.phase; encoding = s.encoding }
 
 -- the open documents
 abbrev pub documents_of : {A : Type 0} → Session A → Documents

@@ -2,7 +2,7 @@
 ghost use Rattle.std.specs.Prelude.{◌≡◌, string_bytes, IfOk, map};
 ghost use Rattle.serde_json.specs.Data.{null};
 ghost use Rattle.serde_json.specs.View.{items_of, view};
-ghost use Rattle.ti_lsp.specs.Diagnostics.{actions_of, edit_data, kind_name};
+ghost use Rattle.ti_lsp.specs.Diagnostics.{actions_of, edit_data, action_kind_name};
 
 use crate::message::ActionKind;
 use crate::publishing::{bytes_range, diagnostic_value, range_value};
@@ -13,7 +13,7 @@ use std::alloc::{AllocError, Global};
 impl ActionKind {
     // Its name in the protocol.
     fn name(self) -> &'static str
-        ensures { result.now ≡ kind_name self }
+        ensures { result.now ≡ action_kind_name self }
     {
         match self {
             ActionKind::QuickFix => "quickfix",

@@ -7,7 +7,7 @@ ghost use Rattle.ti_lsp.specs.Views.{change_view, message_view, notification_vie
 
 use crate::edit::Change;
 use crate::message::{ActionKind, Message, Notification, Request};
-use crate::{Position, PositionEncoding, Range};
+use crate::{Position, PositionEncoding, TextRange};
 use serde_json::Value;
 use std::alloc::{AllocError, Global};
 
@@ -55,11 +55,11 @@ fn position_at(value: &Value, path: &str) -> Option<Position>
 }
 
 // A value as a range.
-fn range_in(value: &Value) -> Option<Range>
+fn range_in(value: &Value) -> Option<TextRange>
     ensures { result ≡ decoded.range_in (view value.now) }
 {
     match (position_at(value, "/start"), position_at(value, "/end")) {
-        (Some(start), Some(end)) => Some(Range { start, end }),
+        (Some(start), Some(end)) => Some(TextRange { start, end }),
         _ => None,
     }
 }
@@ -211,7 +211,7 @@ fn opened(uri: Option<String>, version: Option<i64>, text: Option<String>) -> No
 }
 
 // The range of a change, none for the whole text; or none at all if the member is no range.
-fn change_range(change: &Value) -> Option<Option<Range>>
+fn change_range(change: &Value) -> Option<Option<TextRange>>
     ensures { result ≡ decoded.change_range (view change.now) }
 {
     let Some(range) = change.get("range") else {
@@ -329,7 +329,7 @@ fn decode_named(
     params: &Value,
 ) -> Result<Message, AllocError>
     ensures { IfOk result (λ m. message_view m
-        ≡ decoded.named (option_map (λ v. view v.now) id.entry) method.now (view params.now)) }
+        ≡ decoded.request_or_notification (option_map (λ v. view v.now) id.entry) method.now (view params.now)) }
 {
     let Some(id) = id else {
         return Ok(Message::Notification(decode_notification(alloc, method, params)?));

@@ -4,7 +4,7 @@ ghost use Rattle.ti_lsp.specs.Edits.{all_changed, changed_by, edited, is_next};
 ghost use Rattle.ti_lsp.specs.Views.{change_view};
 
 use crate::position::offset_at;
-use crate::{PositionEncoding, Range};
+use crate::{PositionEncoding, TextRange};
 use std::alloc::{AllocError, Global};
 
 /// An edit that a server suggests: the bytes of a range are replaced.
@@ -21,7 +21,7 @@ pub struct TextEdit {
 /// A change that a client reports: of a range, or of the whole text.
 #[derive(Drop)]
 pub struct Change {
-    pub range: Option<Range>,
+    pub range: Option<TextRange>,
     pub text: String,
 }
 

@@ -20,7 +20,9 @@ mod symbol;
 pub use analyzer::Analyzer;
 pub use diagnostic::Diagnostic;
 pub use edit::{Change, TextEdit, apply_changes, apply_edits};
-pub use position::{Position, PositionEncoding, Range, columns_are_units, offset_at, position_at};
+pub use position::{
+    Position, PositionEncoding, TextRange, columns_are_units, offset_at, position_at,
+};
 pub use response::parse_error;
 pub use session::{Phase, Session};
 pub use symbol::{Symbol, SymbolKind};

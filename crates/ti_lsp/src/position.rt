@@ -5,7 +5,7 @@ ghost use Rattle.std.specs.Char.Escape.{encode_utf16};
 ghost use Rattle.std.specs.List.{flat_map};
 ghost use Rattle.std.specs.Str.{encode_utf8_all};
 ghost use Rattle.ti_lsp.specs.Positions.{cost, ends_line, is_lead, is_long, last_line, last_line_len};
-ghost use Rattle.ti_lsp.specs.Positions.{lines_len, offset_of, position_before, position_of, stops};
+ghost use Rattle.ti_lsp.specs.Positions.{lines_len, offset_of, position_before, position_of, exceeds_units};
 ghost use Rattle.ti_lsp.specs.Positions.{touches, units_len, units_of, width_of};
 ghost use Rattle.ti_lsp.specs.Responses.{encoding_name};
 
@@ -29,7 +29,7 @@ pub struct Position {
 
 /// A range of a text, from one position up to another.
 #[derive(Clone, Copy, Debug, PartialEq, Eq)]
-pub struct Range {
+pub struct TextRange {
     pub start: Position,
     pub end: Position,
 }
@@ -43,7 +43,7 @@ impl Position {
     }
 }
 
-impl Range {
+impl TextRange {
     /// Whether a position is in the range or at one of its ends.
     pub fn touches(self, at: Position) -> bool
         ensures { result ≡ touches self at }

@@ -6,18 +6,18 @@ ghost use Rattle.ti_lsp.specs.Diagnostics.{bytes_range, diagnostic_of, diagnosti
 ghost use Rattle.ti_lsp.specs.Diagnostics.{publication_of, publication_params, range_data};
 
 use crate::position::position_at;
-use crate::{Diagnostic, Position, PositionEncoding, Range};
+use crate::{Diagnostic, Position, PositionEncoding, TextRange};
 use serde_json::{Value, json};
 use std::alloc::{AllocError, Global};
 
 /// The range of some bytes of a text. A range that exceeds the text is cut at its end, and one that ends before its start is empty.
-pub fn bytes_range(encoding: PositionEncoding, text: &str, start: usize, end: usize) -> Range
+pub fn bytes_range(encoding: PositionEncoding, text: &str, start: usize, end: usize) -> TextRange
     ensures { result ≡ bytes_range encoding text.now start end }
 {
     let bytes = text.as_bytes();
     let start = start.min(bytes.len());
     let end = end.min(bytes.len()).max(start);
-    Range {
+    TextRange {
         start: position_at(encoding, bytes, start),
         end: position_at(encoding, bytes, end),
     }
@@ -30,7 +30,7 @@ fn position_value(alloc: Global, at: Position) -> Result<Value, AllocError>
 }
 
 /// A range as JSON.
-pub fn range_value(alloc: Global, range: Range) -> Result<Value, AllocError>
+pub fn range_value(alloc: Global, range: TextRange) -> Result<Value, AllocError>
     ensures { IfOk result (λ v. view v ≡ range_data range) }
 {
     let start = position_value(alloc, range.start)?;

@@ -2,7 +2,7 @@
 ghost use Rattle.std.specs.Prelude.{◌≡◌, IfOk};
 ghost use Rattle.serde_json.specs.Data.{null};
 ghost use Rattle.serde_json.specs.View.{view};
-ghost use Rattle.ti_lsp.specs.Responses.{capabilities_of, code_of, error_of, message_text, success_of};
+ghost use Rattle.ti_lsp.specs.Responses.{capabilities_of, error_code, error_of, message_text, success_of};
 
 use crate::PositionEncoding;
 use serde_json::{Value, json};
@@ -21,7 +21,7 @@ pub enum ErrorCode {
 impl ErrorCode {
     /// Its number in the protocol.
     pub fn code(self) -> i64
-        ensures { result ≡ code_of self }
+        ensures { result ≡ error_code self }
     {
         match self {
             ErrorCode::ParseError => -32700,

@@ -4,7 +4,7 @@ ghost use Rattle.std.specs.Prelude.{◌≡◌, ℕ, ℤ, Bool, List, None, Some,
 ghost use Rattle.std.specs.Prelude.{option_map, string_bytes};
 ghost use Rattle.std.specs.BTreeMap.{get_by_text};
 ghost use Rattle.serde_json.specs.View.{view};
-ghost use Rattle.ti_lsp.specs.Analysis.{HasNone, IsFix};
+ghost use Rattle.ti_lsp.specs.Analysis.{HasNoDiagnostic, IsFix};
 ghost use Rattle.ti_lsp.specs.Handling.{Changes, Clears, Handles, Initializes, Lists, Offers, Publishes};
 ghost use Rattle.ti_lsp.specs.Handling.{Receives, Responds, RespondsInPhase, Updates};
 ghost use Rattle.ti_lsp.specs.Handling.{changed_text, exited, hover_in, is_stale};
@@ -73,11 +73,11 @@ pub struct Session<A: Analyzer> {
 }
 
 impl<A: Analyzer> Session<A> {
-    ghost use Rattle.ti_lsp.specs.Sessions.{documents_of, state_of};
+    ghost use Rattle.ti_lsp.specs.Sessions.{documents_of, server_state_of};
 
     /// A session before its first message.
     pub fn new(alloc: Global, analyzer: A) -> Self
-        ensures state { state_of result
+        ensures state { server_state_of result
             ≡ record { phase = Phase.Uninitialized; encoding = PositionEncoding.Utf16 } }
         ensures empty { (uri : List ℕ) → documents_of result uri ≡ None }
     {
@@ -91,7 +91,7 @@ impl<A: Analyzer> Session<A> {
 
     /// The phase of the session.
     pub fn phase(&self) -> Phase
-        ensures { result ≡ (state_of self.now).phase }
+        ensures { result ≡ (server_state_of self.now).phase }
     {
         self.phase
     }
@@ -103,8 +103,8 @@ impl<A: Analyzer> Session<A> {
         id: &Value,
         request: Request,
     ) -> Result<Value, AllocError>
-        ensures response { IfOk result (λ v. Initializes (view id.now) (state_of self.old)
-            (request_view request) (state_of self.new) (view v)) }
+        ensures response { IfOk result (λ v. Initializes (view id.now) (server_state_of self.old)
+            (request_view request) (server_state_of self.new) (view v)) }
         ensures documents { self.new.documents ≡ self.old.documents }
     {
         match request {
@@ -131,8 +131,8 @@ impl<A: Analyzer> Session<A> {
 
     // Whether a text has no error.
     fn is_accepted(&self, alloc: Global, text: &str) -> Result<bool, AllocError>
-        ensures yes { result ≡ Ok Bool.true → HasNone (A.rejects text.now) }
-        ensures no { result ≡ Ok Bool.false → HasNone (A.rejects text.now) → ⊥ }
+        ensures yes { result ≡ Ok Bool.true → HasNoDiagnostic (A.rejects text.now) }
+        ensures no { result ≡ Ok Bool.false → HasNoDiagnostic (A.rejects text.now) → ⊥ }
     {
         Ok(self.analyzer.analyze(alloc, text)?.is_none())
     }
@@ -219,8 +219,8 @@ impl<A: Analyzer> Session<A> {
     #[tactic(auto, using(crate::proofs::Fixes::returns_actions, crate::proofs::Fixes::returns_symbols))]
     fn respond(&mut self, alloc: Global, id: &Value, request: Request) -> Result<Value, AllocError>
         ensures response { IfOk result (λ v. Responds A.rejects (documents_of self.old)
-            (view id.now) (state_of self.old) (request_view request)
-            (state_of self.new) (view v)) }
+            (view id.now) (server_state_of self.old) (request_view request)
+            (server_state_of self.new) (view v)) }
         ensures documents { self.new.documents ≡ self.old.documents }
     {
         match request {
@@ -249,8 +249,8 @@ impl<A: Analyzer> Session<A> {
     // The response to a request.
     fn request(&mut self, alloc: Global, id: &Value, request: Request) -> Result<Value, AllocError>
         ensures response { IfOk result (λ v. RespondsInPhase self.old.phase A.rejects
-            (documents_of self.old) (view id.now) (state_of self.old)
-            (request_view request) (state_of self.new) (view v)) }
+            (documents_of self.old) (view id.now) (server_state_of self.old)
+            (request_view request) (server_state_of self.new) (view v)) }
         ensures documents { self.new.documents ≡ self.old.documents }
     {
         match self.phase {
@@ -395,8 +395,8 @@ impl<A: Analyzer> Session<A> {
         alloc: Global,
         notification: Notification,
     ) -> Result<Option<Value>, AllocError>
-        ensures { IfOk result (λ o. Receives A.rejects (documents_of self.old) (state_of self.old)
-            (notification_view notification) (state_of self.new) (documents_of self.new)
+        ensures { IfOk result (λ o. Receives A.rejects (documents_of self.old) (server_state_of self.old)
+            (notification_view notification) (server_state_of self.new) (documents_of self.new)
             (option_map view o)) }
     {
         match (self.phase, notification) {
@@ -413,8 +413,8 @@ impl<A: Analyzer> Session<A> {
     ///
     /// The only error is that memory ran out; then nothing is said of the session, and it can't be used further.
     pub fn handle(&mut self, alloc: Global, message: &Value) -> Result<Option<Value>, AllocError>
-        ensures { IfOk result (λ o. Handles A.rejects (documents_of self.old) (state_of self.old)
-            (message_of (view message.now)) (state_of self.new) (documents_of self.new)
+        ensures { IfOk result (λ o. Handles A.rejects (documents_of self.old) (server_state_of self.old)
+            (message_of (view message.now)) (server_state_of self.new) (documents_of self.new)
             (option_map view o)) }
     {
         match decode_message(alloc, message)? {

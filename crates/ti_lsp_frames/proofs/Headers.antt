@@ -6,9 +6,9 @@ use Rattle.std.proofs.KnownBytes.{Consumes-nil, Consumes-trans}
 use Rattle.ti_lsp_frames.specs.declared.error.FrameErr.{FrameErr}
 use Rattle.ti_lsp_frames.specs.declared.error.FrameErr.TheVariants.{TooManyFields, MalformedField, NoContentLength, DuplicateContentLength, ContentTooLong, UnexpectedEnd}
 use Rattle.ti_lsp_frames.specs.declared.header_field.HeaderField.TheVariants.{ContentLength, Other, Malformed}
-use Rattle.ti_lsp_frames.specs.HeaderFields.{field_of}
+use Rattle.ti_lsp_frames.specs.HeaderFields.{header_field_of}
 use Rattle.ti_lsp_frames.specs.Messages.{AreFields, no_field, length_field, other_field, IsHeader, IsInvalid, in_line, no_next, malformed, second_length, no_length, too_many, too_long, cut_content, line_end, max_content}
-use Rattle.ti_lsp_frames.specs.Reading.{AtEnd, TakesLine, TakesHeader, TakesMessage, Fails, FailsLine, FailsContent}
+use Rattle.ti_lsp_frames.specs.Reading.{AtEnd, TakesHeaderLine, TakesHeader, TakesMessage, FailsToRead, FailsLine, FailsContent}
 
 -- this many fields were read, and they give this length
 pub record HasRead (old new : Option (List ℕ)) (given : Option ℕ) (count : ℕ) : Type 0 where
@@ -20,7 +20,7 @@ pub record HasRead (old new : Option (List ℕ)) (given : Option ℕ) (count : �
 pub nothing_read : (a : Option (List ℕ)) → HasRead a a None 0
 nothing_read a = record { bytes = []; are_fields = no_field; taken = Consumes-nil a; first = λ _. refl }
 
-pub length_read : (a b c : Option (List ℕ)) (k n : ℕ) (line : List ℕ) → HasRead a b None k → TakesLine b c line → field_of line ≡ ContentLength n
+pub length_read : (a b c : Option (List ℕ)) (k n : ℕ) (line : List ℕ) → HasRead a b None k → TakesHeaderLine b c line → header_field_of line ≡ ContentLength n
     → HasRead a c (Some n) (k + 1)
 length_read a b c k n line r t is = record {
   bytes = r.bytes ++ (line ++ line_end);
@@ -29,7 +29,7 @@ length_read a b c k n line r t is = record {
   first = λ none. absurd (omega arith);
 }
 
-pub other_read : (a b c : Option (List ℕ)) (given : Option ℕ) (k : ℕ) (line : List ℕ) → HasRead a b given k → TakesLine b c line → field_of line ≡ Other
+pub other_read : (a b c : Option (List ℕ)) (given : Option ℕ) (k : ℕ) (line : List ℕ) → HasRead a b given k → TakesHeaderLine b c line → header_field_of line ≡ Other
     → HasRead a c given (k + 1)
 other_read a b c given k line r t is = record {
   bytes = r.bytes ++ (line ++ line_end);
@@ -39,12 +39,12 @@ other_read a b c given k line r t is = record {
 }
 
 -- the empty line was read after fields
-empty_taken : (a b c : Option (List ℕ)) (line bytes : List ℕ) → Consumes a b bytes → TakesLine b c line → length line ≡ 0 → Consumes a c (bytes ++ line_end)
+empty_taken : (a b c : Option (List ℕ)) (line bytes : List ℕ) → Consumes a b bytes → TakesHeaderLine b c line → length line ≡ 0 → Consumes a c (bytes ++ line_end)
 empty_taken a b c line bytes p t none =
     Consumes-trans a b c _ _ p (subst (λ (l : List ℕ). Consumes b c (l ++ line_end)) (nil_from_length line none) t.taken)
 
 pub header_read : (a b c : Option (List ℕ)) (n k : ℕ) (given : Option ℕ) (line : List ℕ) → HasRead a b given k → given ≡ Some n → k ≤ 31
-    → TakesLine b c line → length line ≡ 0 → TakesHeader a c n
+    → TakesHeaderLine b c line → length line ≡ 0 → TakesHeader a c n
 header_read a b c n k given line r is few t none = record {
   header = r.bytes ++ line_end;
   is_header = record {
@@ -62,7 +62,7 @@ end_at_once a b c given k r none end = (Consumes-trans a b c [] [] (subst (Consu
 
 -- ---- errors in the header
 
-pub fails_line : (a b c : Option (List ℕ)) (given : Option ℕ) (k : ℕ) (e : FrameErr) → HasRead a b given k → k ≤ 31 → FailsLine b c e → Fails a c e
+pub fails_line : (a b c : Option (List ℕ)) (given : Option ℕ) (k : ℕ) (e : FrameErr) → HasRead a b given k → k ≤ 31 → FailsLine b c e → FailsToRead a c e
 fails_line a b c given k e r few (inl o) = inl o
 fails_line a b c given k e r few (inr x) = inr (record {
   bytes = r.bytes ++ x.bytes;
@@ -72,7 +72,7 @@ fails_line a b c given k e r few (inr x) = inr (record {
 })
 
 pub fails_no_next : (a b c : Option (List ℕ)) (given : Option ℕ) (k : ℕ) → HasRead a b given k → k ≤ 31 → (k ≡ 0 → ⊥) → AtEnd b c
-    → Fails a c UnexpectedEnd
+    → FailsToRead a c UnexpectedEnd
 fails_no_next a b c given k r few some end = inr (record {
   bytes = r.bytes;
   invalid = no_next r.are_fields few some;
@@ -80,8 +80,8 @@ fails_no_next a b c given k r few some end = inr (record {
   last = λ _. end.1;
 })
 
-pub fails_malformed : (a b c : Option (List ℕ)) (given : Option ℕ) (k : ℕ) (line : List ℕ) → HasRead a b given k → k ≤ 31 → TakesLine b c line
-    → (length line ≡ 0 → ⊥) → field_of line ≡ Malformed → Fails a c MalformedField
+pub fails_malformed : (a b c : Option (List ℕ)) (given : Option ℕ) (k : ℕ) (line : List ℕ) → HasRead a b given k → k ≤ 31 → TakesHeaderLine b c line
+    → (length line ≡ 0 → ⊥) → header_field_of line ≡ Malformed → FailsToRead a c MalformedField
 fails_malformed a b c given k line r few t some is = inr (record {
   bytes = r.bytes ++ (line ++ line_end);
   invalid = malformed r.are_fields few t.is_line (λ e. some (ap length e)) is;
@@ -89,8 +89,8 @@ fails_malformed a b c given k line r few t some is = inr (record {
   last = λ e. absurd (cc);
 })
 
-pub fails_second : (a b c : Option (List ℕ)) (given : Option ℕ) (k n m : ℕ) (line : List ℕ) → HasRead a b given k → k ≤ 31 → TakesLine b c line
-    → given ≡ Some n → field_of line ≡ ContentLength m → Fails a c DuplicateContentLength
+pub fails_second : (a b c : Option (List ℕ)) (given : Option ℕ) (k n m : ℕ) (line : List ℕ) → HasRead a b given k → k ≤ 31 → TakesHeaderLine b c line
+    → given ≡ Some n → header_field_of line ≡ ContentLength m → FailsToRead a c DuplicateContentLength
 fails_second a b c given k n m line r few t is field = inr (record {
   bytes = r.bytes ++ (line ++ line_end);
   invalid = second_length (subst (λ (o : Option ℕ). AreFields k r.bytes o) is r.are_fields) few t.is_line field;
@@ -98,13 +98,13 @@ fails_second a b c given k n m line r few t is field = inr (record {
   last = λ e. absurd (cc);
 })
 
-pub fails_again : (a b c : Option (List ℕ)) (given : Option ℕ) (k m : ℕ) (line : List ℕ) → HasRead a b given k → k ≤ 31 → TakesLine b c line
-    → is_some given ≡ true → field_of line ≡ ContentLength m → Fails a c DuplicateContentLength
+pub fails_again : (a b c : Option (List ℕ)) (given : Option ℕ) (k m : ℕ) (line : List ℕ) → HasRead a b given k → k ≤ 31 → TakesHeaderLine b c line
+    → is_some given ≡ true → header_field_of line ≡ ContentLength m → FailsToRead a c DuplicateContentLength
 fails_again a b c None k m line r few t some field = absurd (cc)
 fails_again a b c (Some n) k m line r few t some field = fails_second a b c (Some n) k n m line r few t refl field
 
-pub fails_no_length : (a b c : Option (List ℕ)) (given : Option ℕ) (k : ℕ) (line : List ℕ) → HasRead a b given k → given ≡ None → k ≤ 31 → TakesLine b c line
-    → length line ≡ 0 → Fails a c NoContentLength
+pub fails_no_length : (a b c : Option (List ℕ)) (given : Option ℕ) (k : ℕ) (line : List ℕ) → HasRead a b given k → given ≡ None → k ≤ 31 → TakesHeaderLine b c line
+    → length line ≡ 0 → FailsToRead a c NoContentLength
 fails_no_length a b c given k line r is few t none = inr (record {
   bytes = r.bytes ++ line_end;
   invalid = no_length (subst (λ (o : Option ℕ). AreFields k r.bytes o) is r.are_fields) few;
@@ -112,7 +112,7 @@ fails_no_length a b c given k line r is few t none = inr (record {
   last = λ e. absurd (cc);
 })
 
-pub fails_many : (a b : Option (List ℕ)) (given : Option ℕ) (k : ℕ) → HasRead a b given k → k ≡ 32 → Fails a b TooManyFields
+pub fails_many : (a b : Option (List ℕ)) (given : Option ℕ) (k : ℕ) → HasRead a b given k → k ≡ 32 → FailsToRead a b TooManyFields
 fails_many a b given k r is = inr (record {
   bytes = r.bytes;
   invalid = too_many (subst (λ (n : ℕ). AreFields n r.bytes given) is r.are_fields);
@@ -135,10 +135,10 @@ message_read a b c n content t p e short = record {
   taken = Consumes-trans a b c t.header content t.taken p;
 }
 
-pub fails_long : (a b : Option (List ℕ)) (n : ℕ) → TakesHeader a b n → max_content < n → Fails a b ContentTooLong
+pub fails_long : (a b : Option (List ℕ)) (n : ℕ) → TakesHeader a b n → max_content < n → FailsToRead a b ContentTooLong
 fails_long a b n t long = inr (record { bytes = t.header; invalid = too_long t.is_header long; taken = t.taken; last = λ e. absurd (cc) })
 
-pub fails_content : (a b c : Option (List ℕ)) (n : ℕ) (e : FrameErr) → TakesHeader a b n → n ≤ max_content → FailsContent b c n e → Fails a c e
+pub fails_content : (a b c : Option (List ℕ)) (n : ℕ) (e : FrameErr) → TakesHeader a b n → n ≤ max_content → FailsContent b c n e → FailsToRead a c e
 fails_content a b c n e t short (inl o) = inl o
 fails_content a b c n e t short (inr x) = inr (record {
   bytes = t.header ++ x.part;

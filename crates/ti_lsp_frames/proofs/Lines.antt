@@ -7,7 +7,7 @@ use Rattle.std.proofs.KnownBytes.{Consumes-trans}
 use Rattle.ti_lsp_frames.specs.declared.error.FrameErr.{FrameErr}
 use Rattle.ti_lsp_frames.specs.declared.error.FrameErr.TheVariants.{LineTooLong, MalformedField, UnexpectedEnd}
 use Rattle.ti_lsp_frames.specs.Messages.{IsUnended, empty, other_end, long, unended, cut, has_no_feed}
-use Rattle.ti_lsp_frames.specs.Reading.{AtEnd, TakesLine, FailsLine, FailsContent, IsOutside}
+use Rattle.ti_lsp_frames.specs.Reading.{AtEnd, TakesHeaderLine, FailsLine, FailsContent, IsOutside}
 
 pub both_true : (a b : Bool) → (a && b) ≡ true → (a ≡ true) × (b ≡ true)
 both_true true b h = (refl, h)
@@ -34,7 +34,7 @@ pub front_has_no_feed : (front : List ℕ) (b : ℕ) → has_no_feed (front ++ b
 front_has_no_feed front b h = (both_true _ _ (sym (list_all-append (λ (x : ℕ). not (x == 10)) front (b ∷ [])) ∙ h)).0
 
 pub line_taken : (a b c : Option (List ℕ)) (line front : List ℕ) → Consumes a b line → has_no_feed line ≡ true → length line ≤ 1001
-    → line ≡ front ++ 13 ∷ [] → Consumes b c (10 ∷ []) → TakesLine a c front
+    → line ≡ front ++ 13 ∷ [] → Consumes b c (10 ∷ []) → TakesHeaderLine a c front
 line_taken a b c line front p h short e q = record {
   is_line = record {
     one_line = front_has_no_feed front 13 (sym (ap has_no_feed e) ∙ h);

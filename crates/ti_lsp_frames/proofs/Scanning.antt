@@ -5,7 +5,7 @@ use Rattle.ti_lsp_frames.specs.declared.error.FrameErr.{FrameErr}
 use Rattle.ti_lsp_frames.specs.declared.error.FrameErr.TheVariants.{LineTooLong, TooManyFields, MalformedField, NoContentLength, DuplicateContentLength, ContentTooLong, UnexpectedEnd}
 use Rattle.ti_lsp_frames.specs.declared.header_field.HeaderField.{HeaderField}
 use Rattle.ti_lsp_frames.specs.declared.header_field.HeaderField.TheVariants.{ContentLength, Other, Malformed}
-use Rattle.ti_lsp_frames.specs.HeaderFields.{field_of}
+use Rattle.ti_lsp_frames.specs.HeaderFields.{header_field_of}
 use Rattle.ti_lsp_frames.specs.Messages.{AreFields, no_field, length_field, other_field, IsLine, IsHeader, IsUnended, empty, other_end, has_no_feed, line_end, max_content}
 use Rattle.ti_lsp_frames.proofs.Lines.{both_true, one_more}
 
@@ -46,7 +46,7 @@ on_field go given Malformed rest = wrong MalformedField
 abbrev pub on_line : (Option ℕ → List ℕ → Front) → Option ℕ → Option (List ℕ) → List ℕ → Front
 on_line go given None rest = wrong MalformedField
 on_line go given (Some []) rest = on_empty given rest
-on_line go given (Some (b ∷ bs)) rest = on_field go given (field_of (b ∷ bs)) rest
+on_line go given (Some (b ∷ bs)) rest = on_field go given (header_field_of (b ∷ bs)) rest
 
 abbrev pub on_end : (Option ℕ → List ℕ → Front) → Option ℕ → List ℕ → List ℕ → Front
 on_end go given line [] = wrong UnexpectedEnd
@@ -138,7 +138,7 @@ step k given line rest is =
     ap (scan (suc k) given) shape ∙ step_line k given (line ++ 13 ∷ []) rest whole_line few ∙ ap (λ (o : Option (List ℕ)). on_line (scan k) given o rest) (unreturned-end line 13)
 
 -- a step over a field
-pub step_field : (k : ℕ) (given : Option ℕ) (line rest : List ℕ) (field : HeaderField) → IsLine line → (line ≡ [] → ⊥) → field_of line ≡ field
+pub step_field : (k : ℕ) (given : Option ℕ) (line rest : List ℕ) (field : HeaderField) → IsLine line → (line ≡ [] → ⊥) → header_field_of line ≡ field
     → scan (suc k) given ((line ++ line_end) ++ rest) ≡ on_field (scan k) given field rest
 step_field k given [] rest field is some e = absurd (some refl)
 step_field k given (b ∷ bs) rest field is some e = step k given (b ∷ bs) rest is ∙ ap (λ (f : HeaderField). on_field (scan k) given f rest) e
@@ -147,8 +147,8 @@ step_field k given (b ∷ bs) rest field is some e = step k given (b ∷ bs) res
 pub step_empty : (k : ℕ) (given : Option ℕ) (rest : List ℕ) → scan (suc k) given (line_end ++ rest) ≡ on_empty given rest
 step_empty k given rest = refl
 
-not_empty : (line : List ℕ) (field : HeaderField) → field_of line ≡ field → (field ≡ Malformed → ⊥) → line ≡ [] → ⊥
-not_empty line field e other none = other (sym e ∙ ap field_of none)
+not_empty : (line : List ℕ) (field : HeaderField) → header_field_of line ≡ field → (field ≡ Malformed → ⊥) → line ≡ [] → ⊥
+not_empty line field e other none = other (sym e ∙ ap header_field_of none)
 
 -- the fields at the start of some bytes
 pub scan-fields : (count : ℕ) (bytes : List ℕ) (given : Option ℕ) (k total : ℕ) (rest : List ℕ) → AreFields count bytes given → k + count ≡ total

@@ -6,9 +6,9 @@ use Rattle.std.specs.Io.KnownBytes.{Consumes, IsAtEnd}
 use Rattle.ti_lsp_frames.specs.declared.error.FrameErr.{FrameErr}
 use Rattle.ti_lsp_frames.specs.declared.error.FrameErr.TheVariants.{UnexpectedEnd}
 use Rattle.ti_lsp_frames.specs.declared.header_field.HeaderField.TheVariants.{ContentLength, Malformed}
-use Rattle.ti_lsp_frames.specs.HeaderFields.{field_of}
+use Rattle.ti_lsp_frames.specs.HeaderFields.{header_field_of}
 use Rattle.ti_lsp_frames.specs.Messages.{IsMessage, IsInvalidLine, long, unended, cut, IsInvalid, in_line, no_next, malformed, second_length, no_length, too_many, too_long, cut_content, line_end, max_content}
-use Rattle.ti_lsp_frames.specs.Reading.{AtEnd, TakesMessage, Fails, ReadsInvalid, IsOutside}
+use Rattle.ti_lsp_frames.specs.Reading.{AtEnd, TakesMessage, FailsToRead, ReadsInvalid, IsOutside}
 use Rattle.ti_lsp_frames.proofs.Scanning.{whole, wrong, scan, on_line, on_empty, before_feed, before_feed-all, from_feed-none, before_feed-long, unreturned-unended, step_line, step_field, step_empty, scan-fields, scan-after, scan-header}
 
 -- a message
@@ -37,8 +37,8 @@ scan-line k given bytes rest _ (cut h short some) last =
     ap (λ (r : List ℕ). scan (suc k) given (bytes ++ r)) (last refl) ∙ ap (scan (suc k) given) (append-nil bytes)
     ∙ rw (before_feed-all bytes h, from_feed-none bytes h, few) refl
 
-field_present : (line : List ℕ) (n : ℕ) → field_of line ≡ ContentLength n → line ≡ [] → ⊥
-field_present line n e none = let h : Malformed ≡ ContentLength n = sym (ap field_of none) ∙ e in absurd (cc)
+field_present : (line : List ℕ) (n : ℕ) → header_field_of line ≡ ContentLength n → line ≡ [] → ⊥
+field_present line n e none = let h : Malformed ≡ ContentLength n = sym (ap header_field_of none) ∙ e in absurd (cc)
 
 pub scan-invalid : (bytes rest : List ℕ) (e : FrameErr) → IsInvalid bytes e → (e ≡ UnexpectedEnd → rest ≡ []) → scan 32 None (bytes ++ rest) ≡ wrong e
 scan-invalid _ rest e (in_line {count = c} {before = b} {line = l} {given = g} fields few bad) last =
@@ -98,13 +98,13 @@ not_invalid old new message content rest err is e r =
     sym (scan-invalid r.bytes c.0 err r.invalid (λ x. at_end new c.0 c.1 (r.last x))) ∙ sym (ap (scan 32 None) c.2) ∙ scan-message message content rest is in absurd (cc)
 
 pub outside_only : (old new : Option (List ℕ)) (message content rest : List ℕ) (err : FrameErr) → IsMessage message content → old ≡ Some (message ++ rest)
-    → Fails old new err → IsOutside err
+    → FailsToRead old new err → IsOutside err
 outside_only old new message content rest err is e (inl o) = o
 outside_only old new message content rest err is e (inr r) = absurd (not_invalid old new message content rest err is e r)
 
 -- what a read gives of a reader that has a whole message
 pub reads_whole : {X : Type 0} (bytes_of : X → List ℕ) (old new : Option (List ℕ)) (r : Result (Option X) FrameErr)
-    → IfOk r (λ o. IfSome o (λ x. TakesMessage old new (bytes_of x))) → (r ≡ Ok None → AtEnd old new) → IfErr r (Fails old new)
+    → IfOk r (λ o. IfSome o (λ x. TakesMessage old new (bytes_of x))) → (r ≡ Ok None → AtEnd old new) → IfErr r (FailsToRead old new)
     → (message content rest : List ℕ) → IsMessage message content → old ≡ Some (message ++ rest)
     → MatchResult r (λ o. IsSomeAnd o (λ x. bytes_of x ≡ content)) IsOutside
 reads_whole bytes_of old new (Ok (Some x)) took end fails message content rest is e = read_whole old new message content rest (bytes_of x) is e took

@@ -16,9 +16,9 @@ number_after n [] = n
 number_after n (d ∷ ds) = number_after (min (n * 10 + (d - 48)) 16777217) ds
 
 -- the number with these digits, if there is one and all are digits
-abbrev pub number_of : List ℕ → Option ℕ
-number_of [] = None
-number_of (d ∷ ds) = if list_all is_ascii_digit (d ∷ ds) then Some (number_after 0 (d ∷ ds)) else None
+abbrev pub decimal_of : List ℕ → Option ℕ
+decimal_of [] = None
+decimal_of (d ∷ ds) = if list_all is_ascii_digit (d ∷ ds) then Some (number_after 0 (d ∷ ds)) else None
 
 -- whether the name of a field is that of the content length, in any case
 abbrev pub is_length_name : List ℕ → Bool
@@ -33,8 +33,8 @@ length_field (Some n) = ContentLength n
 abbrev pub field_at : List ℕ → Option ℕ → HeaderField
 field_at line None = Malformed
 field_at line (Some colon) =
-    if is_length_name (take colon line) then length_field (number_of (without_spaces (drop (colon + 1) line))) else Other
+    if is_length_name (take colon line) then length_field (decimal_of (without_spaces (drop (colon + 1) line))) else Other
 
 -- the field on a line: 58 is the colon
-abbrev pub field_of : List ℕ → HeaderField
-field_of line = field_at line (position (λ b. b == 58) line)
+abbrev pub header_field_of : List ℕ → HeaderField
+header_field_of line = field_at line (position (λ b. b == 58) line)

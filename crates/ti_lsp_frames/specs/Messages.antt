@@ -4,7 +4,7 @@ use Rattle.std.specs.List.{list_all}
 use Rattle.ti_lsp_frames.specs.declared.error.FrameErr.{FrameErr}
 use Rattle.ti_lsp_frames.specs.declared.error.FrameErr.TheVariants.{LineTooLong, TooManyFields, MalformedField, NoContentLength, DuplicateContentLength, ContentTooLong, UnexpectedEnd}
 use Rattle.ti_lsp_frames.specs.declared.header_field.HeaderField.TheVariants.{ContentLength, Other, Malformed}
-use Rattle.ti_lsp_frames.specs.HeaderFields.{field_of}
+use Rattle.ti_lsp_frames.specs.HeaderFields.{header_field_of}
 
 -- the maximum number of bytes in a line of a header, without its end
 abbrev pub max_line : ℕ
@@ -35,9 +35,9 @@ pub record IsLine (line : List ℕ) : Type 0 where
 pub data AreFields : ℕ → List ℕ → Option ℕ → Type 0 where
   no_field : AreFields 0 [] None
   length_field : {count : ℕ} {before line : List ℕ} {n : ℕ} → AreFields count before None → IsLine line
-      → field_of line ≡ ContentLength n → AreFields (count + 1) (before ++ (line ++ line_end)) (Some n)
+      → header_field_of line ≡ ContentLength n → AreFields (count + 1) (before ++ (line ++ line_end)) (Some n)
   other_field : {count : ℕ} {before line : List ℕ} {given : Option ℕ} → AreFields count before given → IsLine line
-      → field_of line ≡ Other → AreFields (count + 1) (before ++ (line ++ line_end)) given
+      → header_field_of line ≡ Other → AreFields (count + 1) (before ++ (line ++ line_end)) given
 
 -- the bytes are a header that gives this content length: fields and an empty line
 pub record IsHeader (bytes : List ℕ) (n : ℕ) : Type 0 where
@@ -76,9 +76,9 @@ pub data IsInvalid : List ℕ → FrameErr → Type 0 where
   no_next : {count : ℕ} {before : List ℕ} {given : Option ℕ} → AreFields count before given → count ≤ max_fields → (count ≡ 0 → ⊥)
       → IsInvalid before UnexpectedEnd
   malformed : {count : ℕ} {before line : List ℕ} {given : Option ℕ} → AreFields count before given → count ≤ max_fields → IsLine line
-      → (line ≡ [] → ⊥) → field_of line ≡ Malformed → IsInvalid (before ++ (line ++ line_end)) MalformedField
+      → (line ≡ [] → ⊥) → header_field_of line ≡ Malformed → IsInvalid (before ++ (line ++ line_end)) MalformedField
   second_length : {count n m : ℕ} {before line : List ℕ} → AreFields count before (Some n) → count ≤ max_fields → IsLine line
-      → field_of line ≡ ContentLength m → IsInvalid (before ++ (line ++ line_end)) DuplicateContentLength
+      → header_field_of line ≡ ContentLength m → IsInvalid (before ++ (line ++ line_end)) DuplicateContentLength
   no_length : {count : ℕ} {before : List ℕ} → AreFields count before None → count ≤ max_fields
       → IsInvalid (before ++ line_end) NoContentLength
   too_many : {before : List ℕ} {given : Option ℕ} → AreFields (max_fields + 1) before given → IsInvalid before TooManyFields

@@ -15,7 +15,7 @@ TakesByte old new None = AtEnd old new
 TakesByte old new (Some b) = Consumes old new (b ∷ [])
 
 -- a line was read with its end
-pub record TakesLine (old new : Option (List ℕ)) (line : List ℕ) : Type 0 where
+pub record TakesHeaderLine (old new : Option (List ℕ)) (line : List ℕ) : Type 0 where
   pub is_line : IsLine line
   pub taken : Consumes old new (line ++ line_end)
 
@@ -77,5 +77,5 @@ pub record ReadsInvalid (old new : Option (List ℕ)) (e : FrameErr) : Type 0 wh
   pub last : e ≡ UnexpectedEnd → IsAtEnd new
 
 -- no message was read, for this reason
-abbrev pub Fails : Option (List ℕ) → Option (List ℕ) → FrameErr → Type 0
-Fails old new e = IsOutside e ⊎ ReadsInvalid old new e
+abbrev pub FailsToRead : Option (List ℕ) → Option (List ℕ) → FrameErr → Type 0
+FailsToRead old new e = IsOutside e ⊎ ReadsInvalid old new e

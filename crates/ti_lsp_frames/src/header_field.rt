@@ -1,7 +1,7 @@
 // Fields of a header: one line each, a name, a colon and a value. Only `Content-Length` matters here; others are accepted and ignored, as
 // the protocol asks.
 ghost use Rattle.std.specs.Prelude.{◌≡◌, ◌<◌, ◌==◌, IfSome, length, position, take};
-ghost use Rattle.ti_lsp_frames.specs.HeaderFields.{field_of, is_length_name, number_of};
+ghost use Rattle.ti_lsp_frames.specs.HeaderFields.{header_field_of, is_length_name, decimal_of};
 ghost use Rattle.ti_lsp_frames.specs.HeaderFields.{without_spaces};
 
 /// The maximum number of bytes in the content of a message.
@@ -33,7 +33,7 @@ fn without_spaces(value: &[u8]) -> &[u8]
 
 // The decimal number with these digits; it stops at `TOO_LONG`. None if there is no digit, or another byte.
 fn parse_number(digits: &[u8]) -> Option<usize>
-    ensures { result ≡ number_of digits.now }
+    ensures { result ≡ decimal_of digits.now }
 {
     if digits.is_empty() {
         return None;
@@ -67,7 +67,7 @@ fn is_length(line: &[u8], colon: usize) -> bool
 
 /// What a line of a header says. The line is given without its end.
 pub fn parse_field(line: &[u8]) -> HeaderField
-    ensures { result ≡ field_of line.now }
+    ensures { result ≡ header_field_of line.now }
 {
     let Some(colon) = find_colon(line) else {
         return HeaderField::Malformed;

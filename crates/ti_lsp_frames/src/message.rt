@@ -4,7 +4,7 @@ ghost use Rattle.std.specs.Prelude.{◌≡◌, ◌++◌, ◌≤◌, ℕ, List, N
 ghost use Rattle.std.specs.Prelude.{IsSomeAnd, MatchResult};
 ghost use Rattle.std.specs.Io.KnownBytes.{Consumes};
 ghost use Rattle.ti_lsp_frames.specs.Messages.{IsMessage};
-ghost use Rattle.ti_lsp_frames.specs.Reading.{AtEnd, Fails, FailsContent, IsOutside, TakesHeader};
+ghost use Rattle.ti_lsp_frames.specs.Reading.{AtEnd, FailsToRead, FailsContent, IsOutside, TakesHeader};
 ghost use Rattle.ti_lsp_frames.specs.Reading.{TakesMessage};
 
 use crate::FrameErr;
@@ -22,7 +22,7 @@ fn read_header<R: Read>(alloc: Global, reader: &mut R) -> Result<Option<usize>, 
     ensures header { IfOk result (λ o. IfSome o
         (TakesHeader (R.remaining reader.old) (R.remaining reader.new))) }
     ensures end { result ≡ Ok None → AtEnd (R.remaining reader.old) (R.remaining reader.new) }
-    ensures error { IfErr result (Fails (R.remaining reader.old) (R.remaining reader.new)) }
+    ensures error { IfErr result (FailsToRead (R.remaining reader.old) (R.remaining reader.new)) }
 {
     let mut length = None;
     for count in 0..MAX_LINES {
@@ -77,7 +77,7 @@ fn read_next<R: Read>(alloc: Global, reader: &mut R) -> Result<Option<Vec<u8>>, 
     ensures message { IfOk result (λ o. IfSome o (λ content.
         TakesMessage (R.remaining reader.old) (R.remaining reader.new) content.items)) }
     ensures end { result ≡ Ok None → AtEnd (R.remaining reader.old) (R.remaining reader.new) }
-    ensures error { IfErr result (Fails (R.remaining reader.old) (R.remaining reader.new)) }
+    ensures error { IfErr result (FailsToRead (R.remaining reader.old) (R.remaining reader.new)) }
 {
     let Some(length) = read_header(alloc, reader)? else {
         return Ok(None);
@@ -98,7 +98,7 @@ pub fn read_message<R: Read>(alloc: Global, reader: &mut R) -> Result<Option<Vec
     ensures message { IfOk result (λ o. IfSome o (λ content.
         TakesMessage (R.remaining reader.old) (R.remaining reader.new) content.items)) }
     ensures end { result ≡ Ok None → AtEnd (R.remaining reader.old) (R.remaining reader.new) }
-    ensures error { IfErr result (Fails (R.remaining reader.old) (R.remaining reader.new)) }
+    ensures error { IfErr result (FailsToRead (R.remaining reader.old) (R.remaining reader.new)) }
     ensures whole { (message content rest : List ℕ) → IsMessage message content
         → R.remaining reader.old ≡ Some (message ++ rest)
         → MatchResult result (λ o. IsSomeAnd o (λ v. v.items ≡ content)) IsOutside }

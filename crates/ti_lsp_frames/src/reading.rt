@@ -1,7 +1,7 @@
 // Bytes and lines of a reader. Lines are read byte by byte, since the reader's own line reading has no limit; so callers hand in a buffered
 // reader.
 ghost use Rattle.std.specs.Prelude.{◌≡◌, [], ◌∷◌, ◌++◌, None, Ok, IfErr, IfOk, IfSome};
-ghost use Rattle.ti_lsp_frames.specs.Reading.{AtEnd, FailsLine, IsOutside, TakesByte, TakesLine};
+ghost use Rattle.ti_lsp_frames.specs.Reading.{AtEnd, FailsLine, IsOutside, TakesByte, TakesHeaderLine};
 ghost use Rattle.ti_lsp_frames.specs.Messages.{IsUnended};
 
 use crate::FrameErr;
@@ -49,7 +49,7 @@ fn without_return(line: Vec<u8>) -> Option<Vec<u8>>
 #[tactic(auto, using(crate::proofs::Lines::line_taken, crate::proofs::Lines::line_malformed, crate::proofs::Lines::line_long, crate::proofs::Lines::line_cut, crate::proofs::Lines::end_at_once, crate::proofs::Lines::outside_line, crate::proofs::Lines::one_more))]
 pub fn read_line<R: Read>(alloc: Global, reader: &mut R) -> Result<Option<Vec<u8>>, FrameErr>
     ensures line { IfOk result (λ o. IfSome o (λ line.
-        TakesLine (R.remaining reader.old) (R.remaining reader.new) line.items)) }
+        TakesHeaderLine (R.remaining reader.old) (R.remaining reader.new) line.items)) }
     ensures end { result ≡ Ok None → AtEnd (R.remaining reader.old) (R.remaining reader.new) }
     ensures error { IfErr result (FailsLine (R.remaining reader.old) (R.remaining reader.new)) }
 {

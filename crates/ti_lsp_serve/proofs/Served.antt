@@ -7,10 +7,10 @@ use Rattle.ti_lsp_frames.specs.Reading.{TakesMessage, AtEnd}
 use Rattle.ti_lsp.specs.declared.diagnostic.Diagnostic.{Diagnostic}
 use Rattle.ti_lsp.specs.declared.session.Phase.TheVariants.{Exited, Aborted}
 use Rattle.ti_lsp.specs.Handling.{State, Documents}
-use Rattle.ti_lsp_serve.specs.Serving.{Answers, Sends, Steps, Serves, begun, answered, silent, HasServed, Ends, initial}
+use Rattle.ti_lsp_serve.specs.Serving.{AnswersContent, Sends, ServesMessage, Serves, begun, answered, silent, HasServed, Ends, initial}
 
 pub stepped : (rejects : List ℕ → Diagnostic → Type 0) (before after : Documents) (s t : State) (a b c d : Option (List ℕ)) (content : List ℕ) (sent : Option Data)
-    → TakesMessage a b content → Answers rejects before s content t after sent → Sends c d sent → Steps rejects before s a b c d t after
+    → TakesMessage a b content → AnswersContent rejects before s content t after sent → Sends c d sent → ServesMessage rejects before s a b c d t after
 stepped rejects before after s t a b c d content sent taken answers sends =
     record { content = content; taken = taken; sent = sent; answers = answers; sends = sends }
 
@@ -27,10 +27,10 @@ nothing_served rejects a c before s empty new = record {
 }
 
 pub go_on : (rejects : List ℕ → Diagnostic → Type 0) (a b c d e f : Option (List ℕ)) (mid after : Documents) (t u : State) → HasServed rejects a b d e mid t
-    → Steps rejects mid t b c e f u after → HasServed rejects a c d f after u
+    → ServesMessage rejects mid t b c e f u after → HasServed rejects a c d f after u
 go_on rejects a b c d e f mid after t u r step = by step.sent step.answers step.sends
   where
-    by : (one : Option Data) → Answers rejects mid t step.content u after one → Sends e f one → HasServed rejects a c d f after u
+    by : (one : Option Data) → AnswersContent rejects mid t step.content u after one → Sends e f one → HasServed rejects a c d f after u
     by None answers kept = record {
       before = r.before;
       empty = r.empty;

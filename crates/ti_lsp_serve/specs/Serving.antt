@@ -29,8 +29,8 @@ pub record AnswersInvalid (before : Documents) (s : State) (content : List ℕ) 
   pub sent_is : sent ≡ Some (error_of null ParseError)
 
 -- what a session sends for a content, if anything
-abbrev pub Answers : (List ℕ → Diagnostic → Type 0) → Documents → State → List ℕ → State → Documents → Option Data → Type 0
-Answers rejects before s content t after sent = AnswersJson rejects before s content t after sent ⊎ AnswersInvalid before s content t after sent
+abbrev pub AnswersContent : (List ℕ → Diagnostic → Type 0) → Documents → State → List ℕ → State → Documents → Option Data → Type 0
+AnswersContent rejects before s content t after sent = AnswersJson rejects before s content t after sent ⊎ AnswersInvalid before s content t after sent
 
 -- the bytes are a message whose content reads as this value, unless the value is nested deeper than is read
 pub record IsSent (bytes : List ℕ) (value : Data) : Type 0 where
@@ -52,19 +52,19 @@ Sends old new (Some value) = SendsOne old new value
 pub data Serves (rejects : List ℕ → Diagnostic → Type 0) (before : Documents) (s : State) : List ℕ → List ℕ → Documents → State → Type 0 where
   begun : Serves rejects before s [] [] before s
   answered : {xs ys message content written : List ℕ} {mid after : Documents} {t u : State} {value : Data} → Serves rejects before s xs ys mid t
-      → IsMessage message content → Answers rejects mid t content u after (Some value) → IsSent written value
+      → IsMessage message content → AnswersContent rejects mid t content u after (Some value) → IsSent written value
       → Serves rejects before s (xs ++ message) (ys ++ written) after u
   silent : {xs ys message content : List ℕ} {mid after : Documents} {t u : State} → Serves rejects before s xs ys mid t
-      → IsMessage message content → Answers rejects mid t content u after None
+      → IsMessage message content → AnswersContent rejects mid t content u after None
       → Serves rejects before s (xs ++ message) ys after u
 
 -- the next message was read and handled, and what is sent for it was written
-pub record Steps (rejects : List ℕ → Diagnostic → Type 0) (before : Documents) (s : State) (in_old in_new out_old out_new : Option (List ℕ)) (t : State)
+pub record ServesMessage (rejects : List ℕ → Diagnostic → Type 0) (before : Documents) (s : State) (in_old in_new out_old out_new : Option (List ℕ)) (t : State)
     (after : Documents) : Type 0 where
   pub content : List ℕ
   pub taken : TakesMessage in_old in_new content
   pub sent : Option Data
-  pub answers : Answers rejects before s content t after sent
+  pub answers : AnswersContent rejects before s content t after sent
   pub sends : Sends out_old out_new sent
 
 -- the state of a session before its first message

@@ -2,8 +2,8 @@
 ghost use Rattle.std.specs.Prelude.{◌≡◌, true, false, Ok, IfOk, OnOk, option_map};
 ghost use Rattle.serde_json.specs.View.{view};
 ghost use Rattle.ti_lsp_frames.specs.Reading.{AtEnd};
-ghost use Rattle.ti_lsp.specs.Sessions.{documents_of, state_of};
-ghost use Rattle.ti_lsp_serve.specs.Serving.{Answers, Ends, Sends, Steps};
+ghost use Rattle.ti_lsp.specs.Sessions.{documents_of, server_state_of};
+ghost use Rattle.ti_lsp_serve.specs.Serving.{AnswersContent, Ends, Sends, ServesMessage};
 
 use crate::ServeErr;
 use serde_json::Value;
@@ -18,9 +18,9 @@ fn answer<A: Analyzer>(
     session: &mut Session<A>,
     content: &[u8],
 ) -> Result<Option<Value>, AllocError>
-    ensures { IfOk result (λ o. Answers A.rejects
-        (documents_of session.old) (state_of session.old) content.now
-        (state_of session.new) (documents_of session.new) (option_map view o)) }
+    ensures { IfOk result (λ o. AnswersContent A.rejects
+        (documents_of session.old) (server_state_of session.old) content.now
+        (server_state_of session.new) (documents_of session.new) (option_map view o)) }
 {
     match Value::from_slice(alloc, content) {
         Ok(message) => session.handle(alloc, &message),
@@ -54,11 +54,11 @@ fn step<A: Analyzer, R: Read, W: Write>(
     input: &mut R,
     out: &mut W,
 ) -> Result<bool, ServeErr>
-    ensures stepped { IfOk result (λ more. more ≡ true → Steps A.rejects
-        (documents_of session.old) (state_of session.old)
+    ensures stepped { IfOk result (λ more. more ≡ true → ServesMessage A.rejects
+        (documents_of session.old) (server_state_of session.old)
         (R.remaining input.old) (R.remaining input.new)
         (W.contents out.old) (W.contents out.new)
-        (state_of session.new) (documents_of session.new)) }
+        (server_state_of session.new) (documents_of session.new)) }
     ensures end { result ≡ Ok false → AtEnd (R.remaining input.old) (R.remaining input.new) }
     ensures session { result ≡ Ok false → session.new ≡ session.old }
     ensures written { result ≡ Ok false → W.contents out.new ≡ W.contents out.old }

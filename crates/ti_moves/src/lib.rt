@@ -14,7 +14,7 @@ mod statements;
 mod stmt_path;
 mod targets;
 
-pub use assign::{Dest, RightSide, dest_at, new_slot, store_value};
+pub use assign::{Dest, RightSide, dest_at, store_value};
 pub use calls::{argument, body_of, method, number_called};
 pub use collectives::{delete, root_among};
 pub use copies::{copy_element, take_element};

@@ -9,7 +9,7 @@ ghost use Rattle.ti_names.specs.Seen.{tree_maybe};
 use std::alloc::Global;
 use ti_base::Memory;
 use ti_syntax::Spelled;
-use ti_syntax::tree::{Printed, Stmt};
+use ti_syntax::tree::{PrintArgument, Stmt};
 
 /// A collector of string literals, in source order.
 #[derive(Drop)]
@@ -26,14 +26,14 @@ impl Literals {
         Ok(self.texts.push(text)?)
     }
 
-    fn print(&mut self, what: &Printed) -> Result<(), Memory>
+    fn print(&mut self, what: &PrintArgument) -> Result<(), Memory>
         ensures { OnOk result (self.new.texts.items ≡ self.old.texts.items ++ printed_text (print_of what.now)) }
     {
         match what {
-            Printed::Nothing => Ok(()),
-            Printed::Text(text) => self.text(text),
-            Printed::Value(_) => Ok(()),
-            Printed::TextAndValue(text, _) => self.text(text),
+            PrintArgument::Nothing => Ok(()),
+            PrintArgument::Text(text) => self.text(text),
+            PrintArgument::Value(_) => Ok(()),
+            PrintArgument::TextAndValue(text, _) => self.text(text),
         }
     }
 

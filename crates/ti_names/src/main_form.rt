@@ -17,7 +17,7 @@ use crate::tables::Tables;
 use ti_base::{Memory, Place};
 use ti_lang::program::{has_static, is_single};
 use ti_rules::{Refusal, Rule, earlier_of, refused_if};
-use ti_syntax::tree::{Method, Modifier, ModifierWord, Params, ResultType, Tree};
+use ti_syntax::tree::{Method, Modifier, ModifierWord, Params, ResultDecl, Tree};
 
 fn is_public_word(word: ModifierWord) -> bool
     ensures { result ≡ is_public_word word }
@@ -31,12 +31,12 @@ fn is_public(words: &[Modifier]) -> bool
     words.iter().any(|modifier| is_public_word(modifier.word))
 }
 
-fn is_void(result_type: &ResultType) -> bool
+fn is_void(result_type: &ResultDecl) -> bool
     ensures { result ≡ is_void (result_of result_type.now) }
 {
     match result_type {
-        ResultType::Void(_) => true,
-        ResultType::Typed(_) => false,
+        ResultDecl::Void(_) => true,
+        ResultDecl::Typed(_) => false,
     }
 }
 

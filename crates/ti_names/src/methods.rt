@@ -35,7 +35,7 @@ pub struct AllMethods {
 
 impl<'t, 'a> NameContext<'t, 'a> {
     #[tactic(auto, using(crate::proofs::Firsts::in_nodes))]
-    fn param(&mut self, param: &'a tree::Param) -> Result<Resolved<Param>, Memory>
+    fn param(&mut self, param: &'a tree::ParamDecl) -> Result<Resolved<Param>, Memory>
         ensures part { IfOk result (λ r. numbered_param_of r.part ≡ number_param (text_of_tables self.old.tables.now) (param_of param.now)) }
         ensures refusal { IfOk result (λ r. r.refusal ≡ first_in (type_nodes (site_of self.old) (type_tree_of param.now.ty)
             ++ node (site_of self.old) (VariableName param.now.place param.now.name) ∷ [])) }
@@ -57,7 +57,7 @@ impl<'t, 'a> NameContext<'t, 'a> {
     }
 
     #[tactic(auto, using(crate::proofs::Firsts::none_sooner))]
-    fn param_list(&mut self, params: &'a [tree::Param]) -> Result<Resolved<Vec<Param>>, Memory>
+    fn param_list(&mut self, params: &'a [tree::ParamDecl]) -> Result<Resolved<Vec<Param>>, Memory>
         ensures part { IfOk result (λ r. map numbered_param_of r.part.items
             ≡ number_param_list (text_of_tables self.old.tables.now) (map param_of params.now)) }
         ensures refusal { IfOk result (λ r. r.refusal ≡ first_in (param_list_nodes (site_of self.old) (map param_of params.now))) }
@@ -97,22 +97,22 @@ impl<'t, 'a> NameContext<'t, 'a> {
         }
     }
 
-    fn result(&self, given: &tree::ResultType) -> Result<ResultType, Memory>
+    fn result(&self, given: &tree::ResultDecl) -> Result<ResultType, Memory>
         ensures { IfOk result (λ r. numbered_result_of r ≡ number_result (text_of_tables self.now.tables.now) (result_of given.now)) }
     {
         match given {
-            tree::ResultType::Void(_) => Ok(ResultType::Void),
-            tree::ResultType::Typed(ty) => Ok(ResultType::Typed(self.type_use(ty)?)),
+            tree::ResultDecl::Void(_) => Ok(ResultType::Void),
+            tree::ResultDecl::Typed(ty) => Ok(ResultType::Typed(self.type_use(ty)?)),
         }
     }
 
     #[tactic(auto, using(crate::proofs::Firsts::in_nodes))]
-    fn check_result(&self, given: &tree::ResultType) -> Option<Refusal>
+    fn check_result(&self, given: &tree::ResultDecl) -> Option<Refusal>
         ensures { result ≡ first_in (result_nodes (site_of self.now) (result_of given.now)) }
     {
         match given {
-            tree::ResultType::Void(_) => None,
-            tree::ResultType::Typed(ty) => self.check_type(ty),
+            tree::ResultDecl::Void(_) => None,
+            tree::ResultDecl::Typed(ty) => self.check_type(ty),
         }
     }
 

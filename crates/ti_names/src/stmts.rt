@@ -51,27 +51,27 @@ impl<'t, 'a> NameContext<'t, 'a> {
     // ---- simple statements
 
     #[tactic(auto, using(crate::proofs::Firsts::in_nodes))]
-    fn check_print(&self, what: &tree::Printed) -> Option<Refusal>
+    fn check_print(&self, what: &tree::PrintArgument) -> Option<Refusal>
         ensures { result ≡ first_in (print_nodes (site_of self.now) (print_of what.now)) }
     {
         match what {
-            tree::Printed::Nothing => None,
-            tree::Printed::Text(_) => None,
-            tree::Printed::Value(x) => self.check_exp(x),
-            tree::Printed::TextAndValue(_, x) => self.check_exp(x),
+            tree::PrintArgument::Nothing => None,
+            tree::PrintArgument::Text(_) => None,
+            tree::PrintArgument::Value(x) => self.check_exp(x),
+            tree::PrintArgument::TextAndValue(_, x) => self.check_exp(x),
         }
     }
 
-    fn print(&mut self, what: &tree::Printed) -> Result<Printed, Memory>
+    fn print(&mut self, what: &tree::PrintArgument) -> Result<Printed, Memory>
         ensures part { IfOk result (λ w. printed_of w ≡ number_print (site_of self.old) (print_of what.now)) }
         ensures site { OnOk result (site_of self.new ≡ record (site_of self.old)
             { literals = self.old.literals + length (printed_text (print_of what.now)) }) }
     {
         match what {
-            tree::Printed::Nothing => Ok(Printed::Nothing),
-            tree::Printed::Text(_) => Ok(Printed::Text(self.literal()?)),
-            tree::Printed::Value(x) => Ok(Printed::Value(self.exp(x)?)),
-            tree::Printed::TextAndValue(_, x) => {
+            tree::PrintArgument::Nothing => Ok(Printed::Nothing),
+            tree::PrintArgument::Text(_) => Ok(Printed::Text(self.literal()?)),
+            tree::PrintArgument::Value(x) => Ok(Printed::Value(self.exp(x)?)),
+            tree::PrintArgument::TextAndValue(_, x) => {
                 let x = self.exp(x)?;
                 Ok(Printed::TextAndValue(self.literal()?, x))
             }
@@ -171,7 +171,11 @@ impl<'t, 'a> NameContext<'t, 'a> {
         })
     }
 
-    fn print_stmt(&mut self, place: Place, what: &tree::Printed) -> Result<Resolved<Stmt>, Memory>
+    fn print_stmt(
+        &mut self,
+        place: Place,
+        what: &tree::PrintArgument,
+    ) -> Result<Resolved<Stmt>, Memory>
         ensures part { IfOk result (λ r. statement_of r.part ≡ number_stm (site_of self.old) (s.Print place (print_of what.now))) }
         ensures refusal { IfOk result (λ r. r.refusal ≡ first_in (stm_nodes (site_of self.old) (s.Print place (print_of what.now)))) }
         ensures site { OnOk result (site_of self.new ≡ site_after (site_of self.old) (s.Print place (print_of what.now))) }

@@ -14,7 +14,7 @@ use crate::words::{Modified, modifier_of};
 use ti_base::Place;
 use ti_parse_expr::{ParseStop, Tokens};
 use ti_syntax::tree::{
-    Class, Field, Member, Method, Modifier, Param, Params, ResultType, Stmt, TypeName,
+    Class, Field, Member, Method, Modifier, ParamDecl, Params, ResultDecl, Stmt, TypeName,
 };
 use ti_syntax::{Spelled, TokenKind};
 
@@ -30,7 +30,7 @@ impl TextParser {
 
     /// One or more parameters.
     #[tactic(auto, unfolding(crate::specs::Mirrors::Classes::more_params))]
-    fn more_params(self, tokens: &mut Tokens<'_>) -> Result<Vec<Param>, ParseStop>
+    fn more_params(self, tokens: &mut Tokens<'_>) -> Result<Vec<ParamDecl>, ParseStop>
         ensures { ParsesAs param_list_of (spec.more_params language_params self.fuel self.fuel [] tokens.old) result tokens.new }
     {
         let mut found = Vec::new(self.alloc);
@@ -38,7 +38,7 @@ impl TextParser {
             let ty = self.any_type(tokens)?;
             let place = tokens.place();
             let name = tokens.name(self.alloc)?;
-            found.push(Param { ty, place, name })?;
+            found.push(ParamDecl { ty, place, name })?;
             if !tokens.next_is(TokenKind::Comma) {
                 return Ok(found);
             }
@@ -102,7 +102,7 @@ impl TextParser {
         self,
         tokens: &mut Tokens<'_>,
         modifiers: Vec<Modifier>,
-        result_type: ResultType,
+        result_type: ResultDecl,
         place: Place,
         name: Spelled,
     ) -> Result<Member, ParseStop>
@@ -130,7 +130,7 @@ impl TextParser {
         self,
         tokens: &mut Tokens<'_>,
         modifiers: Vec<Modifier>,
-        result_type: ResultType,
+        result_type: ResultDecl,
     ) -> Result<Member, ParseStop>
         ensures { ParsesAs member_of (spec.method_named language_params self.fuel modifiers.items (result_of result_type) tokens.old) result
             tokens.new }
@@ -153,7 +153,7 @@ impl TextParser {
         let place = tokens.place();
         let name = tokens.name(self.alloc)?;
         if !tokens.next_is(TokenKind::Semicolon) {
-            return self.method(tokens, modifiers, ResultType::Typed(ty), place, name);
+            return self.method(tokens, modifiers, ResultDecl::Typed(ty), place, name);
         }
         tokens.bump();
         Ok(Member::Field(Field {
@@ -177,11 +177,11 @@ impl TextParser {
             TokenKind::KeywordVoid => {
                 let place = tokens.place();
                 tokens.bump();
-                self.method_named(tokens, modifiers, ResultType::Void(place))
+                self.method_named(tokens, modifiers, ResultDecl::Void(place))
             }
             TokenKind::KeywordDomain | TokenKind::KeywordSharedRegion => {
                 let ty = self.wide_type(tokens)?;
-                self.method_named(tokens, modifiers, ResultType::Typed(ty))
+                self.method_named(tokens, modifiers, ResultDecl::Typed(ty))
             }
             _ => {
                 let ty = self.field(tokens)?;

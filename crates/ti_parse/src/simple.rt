@@ -17,7 +17,7 @@ use ti_parse_expr::full::{full_behind_bracket, full_behind_name, full_expr, full
 use ti_parse_expr::operators::qualifier_of;
 use ti_parse_expr::types::{field_type, grid, grids};
 use ti_parse_expr::{Form, ParseStop, PostfixExpr, PostfixKind, Tokens};
-use ti_syntax::tree::{Base, BinaryOperator, Expr, Printed, Stmt, TypeName};
+use ti_syntax::tree::{Base, BinaryOperator, Expr, PrintArgument, Stmt, TypeName};
 use ti_syntax::{Spelled, TokenKind};
 
 /// The start of a statement that begins with a name.
@@ -276,30 +276,30 @@ impl TextParser {
         self,
         tokens: &mut Tokens<'_>,
         text: Spelled,
-    ) -> Result<Printed, ParseStop>
+    ) -> Result<PrintArgument, ParseStop>
         ensures { ParsesAs print_of (spec.print_text_argument language_params self.fuel text tokens.old) result tokens.new }
     {
         if !tokens.next_is(TokenKind::Plus) {
-            return Ok(Printed::Text(text));
+            return Ok(PrintArgument::Text(text));
         }
         tokens.bump();
         let value = full_expr(self.alloc, tokens, Form::Mul)?;
-        Ok(Printed::TextAndValue(text, value))
+        Ok(PrintArgument::TextAndValue(text, value))
     }
 
     /// The argument of a print, without its parentheses.
     #[tactic(auto, unfolding(crate::specs::Mirrors::Parts::print_argument))]
-    fn print_argument(self, tokens: &mut Tokens<'_>) -> Result<Printed, ParseStop>
+    fn print_argument(self, tokens: &mut Tokens<'_>) -> Result<PrintArgument, ParseStop>
         ensures { ParsesAs print_of (spec.print_argument language_params self.fuel tokens.old) result tokens.new }
     {
         match tokens.peek() {
-            TokenKind::RightParen => Ok(Printed::Nothing),
+            TokenKind::RightParen => Ok(PrintArgument::Nothing),
             TokenKind::Str(text) => {
                 let text = text.copy(self.alloc)?;
                 tokens.bump();
                 self.print_text_argument(tokens, text)
             }
-            _ => Ok(Printed::Value(self.expr(tokens)?)),
+            _ => Ok(PrintArgument::Value(self.expr(tokens)?)),
         }
     }
 

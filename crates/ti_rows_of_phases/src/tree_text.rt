@@ -3,8 +3,8 @@
 use crate::debug_text::{Leaf, Node, NodeText, Shape, leaf_text};
 use std::alloc::{AllocError, Global};
 use ti_syntax::tree::{
-    Base, Brackets, Class, Dims, Expr, Field, Init, Member, Method, Modifier, Param, Params,
-    Printed, Qualifier, Range, ResultType, Stmt, TypeName,
+    Base, Brackets, Class, Dims, Expr, Field, Init, Member, Method, Modifier, ParamDecl, Params,
+    PrintArgument, Qualifier, Range, ResultDecl, Stmt, TypeName,
 };
 
 /// A node of the tree, or a list of nodes.
@@ -18,12 +18,12 @@ pub(crate) enum TreeNode<'a> {
     Range(&'a Range),
     Dims(&'a Dims),
     Init(&'a Init),
-    Printed(&'a Printed),
+    PrintArgument(&'a PrintArgument),
     Stmt(&'a Stmt),
     Field(&'a Field),
-    Param(&'a Param),
+    ParamDecl(&'a ParamDecl),
     Params(&'a Params),
-    ResultType(&'a ResultType),
+    ResultDecl(&'a ResultDecl),
     Method(&'a Method),
     Member(&'a Member),
     Class(&'a Class),
@@ -33,7 +33,7 @@ pub(crate) enum TreeNode<'a> {
     Modifiers(&'a [Modifier]),
     Qualifiers(&'a [Qualifier]),
     Grids(&'a [Brackets]),
-    ParamList(&'a [Param]),
+    ParamList(&'a [ParamDecl]),
     Members(&'a [Member]),
     Classes(&'a [Class]),
     MaybeExpr(&'a Option<Expr>),
@@ -54,12 +54,12 @@ impl<'a> TreeNode<'a> {
             TreeNode::Range(node) => range(node),
             TreeNode::Dims(node) => dims(node),
             TreeNode::Init(node) => init(node),
-            TreeNode::Printed(node) => printed(node),
+            TreeNode::PrintArgument(node) => printed(node),
             TreeNode::Stmt(node) => stmt(node),
             TreeNode::Field(node) => field(node),
-            TreeNode::Param(node) => param(node),
+            TreeNode::ParamDecl(node) => param(node),
             TreeNode::Params(node) => params(node),
-            TreeNode::ResultType(node) => result_type(node),
+            TreeNode::ResultDecl(node) => result_type(node),
             TreeNode::Method(node) => method(node),
             TreeNode::Member(node) => member(node),
             TreeNode::Class(node) => class(node),
@@ -95,7 +95,7 @@ impl<'a> Node for TreeNode<'a> {
             TreeNode::Modifiers(list) => Some(TreeNode::Leaf(Leaf::Modifier(*list.get(index)?))),
             TreeNode::Qualifiers(list) => Some(TreeNode::Leaf(Leaf::Qualifier(*list.get(index)?))),
             TreeNode::Grids(list) => Some(TreeNode::Brackets(list.get(index)?)),
-            TreeNode::ParamList(list) => Some(TreeNode::Param(list.get(index)?)),
+            TreeNode::ParamList(list) => Some(TreeNode::ParamDecl(list.get(index)?)),
             TreeNode::Members(list) => Some(TreeNode::Member(list.get(index)?)),
             TreeNode::Classes(list) => Some(TreeNode::Class(list.get(index)?)),
             _ => None,
@@ -330,12 +330,12 @@ fn init(init: &Init) -> NodeText<TreeNode<'_>> {
 }
 
 /// The form of the argument of a print statement.
-fn printed(printed: &Printed) -> NodeText<TreeNode<'_>> {
+fn printed(printed: &PrintArgument) -> NodeText<TreeNode<'_>> {
     match printed {
-        Printed::Nothing => NodeText::of0("Nothing"),
-        Printed::Text(text) => NodeText::of1("Text(@)", TreeNode::Leaf(Leaf::Spelled(text))),
-        Printed::Value(e) => NodeText::of1("Value(@)", TreeNode::Expr(e)),
-        Printed::TextAndValue(text, e) => NodeText::of2(
+        PrintArgument::Nothing => NodeText::of0("Nothing"),
+        PrintArgument::Text(text) => NodeText::of1("Text(@)", TreeNode::Leaf(Leaf::Spelled(text))),
+        PrintArgument::Value(e) => NodeText::of1("Value(@)", TreeNode::Expr(e)),
+        PrintArgument::TextAndValue(text, e) => NodeText::of2(
             "TextAndValue(@, @)",
             TreeNode::Leaf(Leaf::Spelled(text)),
             TreeNode::Expr(e),
@@ -395,7 +395,7 @@ fn stmt(stmt: &Stmt) -> NodeText<TreeNode<'_>> {
         Stmt::Print(place, printed) => NodeText::of2(
             "Print(@, @)",
             TreeNode::Leaf(Leaf::Place(*place)),
-            TreeNode::Printed(printed),
+            TreeNode::PrintArgument(printed),
         ),
         Stmt::Barrier(place) => NodeText::of1("Barrier(@)", TreeNode::Leaf(Leaf::Place(*place))),
         Stmt::Break(place) => NodeText::of1("Break(@)", TreeNode::Leaf(Leaf::Place(*place))),
@@ -471,7 +471,7 @@ fn field(field: &Field) -> NodeText<TreeNode<'_>> {
 }
 
 /// The form of a parameter declaration.
-fn param(param: &Param) -> NodeText<TreeNode<'_>> {
+fn param(param: &ParamDecl) -> NodeText<TreeNode<'_>> {
     NodeText::of3(
         "Param { ty: @, place: @, name: @ }",
         TreeNode::TypeName(&param.ty),
@@ -493,10 +493,10 @@ fn params(params: &Params) -> NodeText<TreeNode<'_>> {
 }
 
 /// The form of the result type of a method, which may be `void`.
-fn result_type(ty: &ResultType) -> NodeText<TreeNode<'_>> {
+fn result_type(ty: &ResultDecl) -> NodeText<TreeNode<'_>> {
     match ty {
-        ResultType::Void(place) => NodeText::of1("Void(@)", TreeNode::Leaf(Leaf::Place(*place))),
-        ResultType::Typed(ty) => NodeText::of1("Typed(@)", TreeNode::TypeName(ty)),
+        ResultDecl::Void(place) => NodeText::of1("Void(@)", TreeNode::Leaf(Leaf::Place(*place))),
+        ResultDecl::Typed(ty) => NodeText::of1("Typed(@)", TreeNode::TypeName(ty)),
     }
 }
 
@@ -505,7 +505,7 @@ fn method(method: &Method) -> NodeText<TreeNode<'_>> {
     NodeText::of4(
         "Method { modifiers: @, result: @, place: @@",
         TreeNode::Modifiers(&method.modifiers),
-        TreeNode::ResultType(&method.result),
+        TreeNode::ResultDecl(&method.result),
         TreeNode::Leaf(Leaf::Place(method.place)),
         TreeNode::MethodEnd(method),
     )

@@ -10,9 +10,9 @@ mod text;
 mod types;
 
 pub use classes::{
-    Class, Field, Member, Method, Modifier, ModifierWord, Param, Params, ResultType,
+    Class, Field, Member, Method, Modifier, ModifierWord, ParamDecl, Params, ResultDecl,
 };
 pub use exprs::{BinaryOperator, Expr, Range, UnaryOperator};
-pub use stmts::{Dims, Init, Printed, StepOperator, Stmt};
+pub use stmts::{Dims, Init, PrintArgument, StepOperator, Stmt};
 pub use text::Tree;
 pub use types::{Base, Brackets, Qualifier, QualifierWord, TypeName};

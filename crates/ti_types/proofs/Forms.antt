@@ -22,7 +22,7 @@ use Rattle.ti_rules.specs.Broken.Calls.{call_refusals, member_refusals}
 use Rattle.ti_rules.specs.Broken.Expressions.{places_of, refusals_at, exp_refusals, other_indices}
 use Rattle.ti_rules.proofs.Lemmas.{first_append, first_append_each, first_node, count_places}
 use Rattle.ti_types.specs.declared.typed_expr.TypedExpr.{TypedExpr}
-use Rattle.ti_types.specs.declared.operands.Operands.{Operands}
+use Rattle.ti_types.specs.declared.operands.OperandsTyping.{OperandsTyping}
 use Rattle.ti_types.specs.Results.{typed_of, IsTypedExpr}
 use Rattle.ti_types.specs.Mirrors.Arguments.{OperandSummary, summary, summary_of, parameter_types, summary_call_refusal, summary_call}
 use Rattle.ti_types.specs.Mirrors.Nodes.{summary_index_type, summary_other_indices, member_method, summary_member, summary_member_refusal, summary_rect_type, summary_fits_other_dims}
@@ -53,7 +53,7 @@ node p s e before placed rule inner places own found is_parts is_at is_inner is_
 
 -- what is known of arguments
 known_call : (p : ProgramView) (s : ScopeContents) (xs : NumberedExps) (m : Option NumberedMethod)
-    (a : Operands) (count : ℕ)
+    (a : OperandsTyping) (count : ℕ)
     (k : ExprTyping) → AreTypedOperands p s xs (parameter_types m) a → count ≡ length (places_of xs)
     → k
     ≡ summary_call m count (option_map summary_of a.types)
@@ -62,7 +62,7 @@ known_call p s xs m a count k are is_count is =
     is ∙ ap (summary_call m count) are.2 ∙ called_is (places_of xs) m (operands p s xs) count is_count (count_places p s xs)
 
 wrong_call : (p : ProgramView) (s : ScopeContents) (at : Place) (xs : NumberedExps)
-    (m : Option NumberedMethod) (a : Operands)
+    (m : Option NumberedMethod) (a : OperandsTyping)
     (count : ℕ) (own : Option Refusal) → AreTypedOperands p s xs (parameter_types m) a → count
     ≡ length (places_of xs)
     → own ≡ summary_call_refusal at (places_of xs) m None count (option_map summary_of a.types) → own ≡ earliest (judged (operands p s xs) (λ ts. call_refusals at (places_of xs) m ts))
@@ -72,7 +72,7 @@ wrong_call p s at xs m a count own are is_count is =
 -- a call, of either form
 pub call_form : (p : ProgramView) (s : ScopeContents) (e : NumberedExp) (at : Place) (number : ℕ)
     (xs : NumberedExps)
-    (m : Option NumberedMethod) (a : Operands) (count : ℕ) (own j : TypedExpr) → parts e
+    (m : Option NumberedMethod) (a : OperandsTyping) (count : ℕ) (own j : TypedExpr) → parts e
     ≡ parts_of_all xs ++ e ∷ []
     → refusals_at p s e ≡ all_misplaced p s xs
     ++ judged (operands p s xs)
@@ -115,7 +115,7 @@ plain_same : (a c : Option ValueType) → a ≡ c → plain a ≡ plain c
 plain_same a c e = ap (λ o. let k : ExprTyping = record { type = o; is_call = false } in k) e
 
 pub point_form : (p : ProgramView) (s : ScopeContents) (at : Place) (xs : NumberedExps)
-    (a : Operands) (count : ℕ) (own j : TypedExpr) → AreTypedOperands p s xs [] a → count
+    (a : OperandsTyping) (count : ℕ) (own j : TypedExpr) → AreTypedOperands p s xs [] a → count
     ≡ length (places_of xs)
     → typed_of own ≡ plain (option_and_then (λ (t : OperandSummary). where_true t.ints (Pt count))
     (option_map summary_of a.types)) → own.first
@@ -137,7 +137,7 @@ point_form p s at xs a count own j are is_count is_known is_own is_typed is_firs
 )
 
 pub rect_form : (p : ProgramView) (s : ScopeContents) (at : Place) (rs : NumberedRanges)
-    (a : Operands) (count : ℕ) (own j : TypedExpr)
+    (a : OperandsTyping) (count : ℕ) (own j : TypedExpr)
     → AreTypedOperands p s (operands_in rs) [] a → count ≡ range_count rs
     → typed_of own
     ≡ plain (option_and_then (summary_rect_type count) (option_map summary_of a.types)) → own.first
@@ -174,13 +174,13 @@ rect_form p s at rs a count own j are is_count is_known is_own is_typed is_first
 
 -- what is in a receiver and in arguments
 inner_both : (p : ProgramView) (s : ScopeContents) (e : NumberedExp) (xs : NumberedExps)
-    (us : List ValueType) (t : TypedExpr) (a : Operands) → IsTypedExpr p s e t
+    (us : List ValueType) (t : TypedExpr) (a : OperandsTyping) → IsTypedExpr p s e t
     → AreTypedOperands p s xs us a
     → earlier_of t.first a.inner ≡ earliest (flat_map (refusals_at p s) (parts e ++ parts_of_all xs))
 inner_both p s e xs us t a is_t are = ap (λ f. earlier_of f a.inner) is_t.1 ∙ ap (earlier_of (earliest (exp_refusals p s e))) are.0 ∙ sym (first_append_each (refusals_at p s) (parts e) (parts_of_all xs))
 
 placed_both : (p : ProgramView) (s : ScopeContents) (e : NumberedExp) (xs : NumberedExps) (us : List ValueType) (place : Place)
-    (t : TypedExpr) (a : Operands) → IsTypedExpr p s e t → place ≡ place_of_numbered e
+    (t : TypedExpr) (a : OperandsTyping) → IsTypedExpr p s e t → place ≡ place_of_numbered e
     → AreTypedOperands p s xs us a
     → earlier_of (earliest (misplaced_at place (typed_of t))) a.misplaced ≡ earliest (misplaced p s e ++ all_misplaced p s xs)
 placed_both p s e xs us place t a is_t is_place are =
@@ -189,7 +189,7 @@ placed_both p s e xs us place t a is_t is_place are =
     ∙ sym (first_append (misplaced p s e) (all_misplaced p s xs))
 
 pub member_form : (p : ProgramView) (s : ScopeContents) (at : Place) (e : NumberedExp) (name : ℕ) (xs : NumberedExps) (place : Place)
-    (o : Option ValueType) (m : Option NumberedMethod) (t : TypedExpr) (a : Operands) (count : ℕ)
+    (o : Option ValueType) (m : Option NumberedMethod) (t : TypedExpr) (a : OperandsTyping) (count : ℕ)
     (own j : TypedExpr) → IsTypedExpr p s e t
     → place ≡ place_of_numbered e → o ≡ operand (type_result p s e)
     → m ≡ member_method p o name → AreTypedOperands p s xs (parameter_types m) a → count
@@ -243,7 +243,7 @@ index_refused at places (Some t) (Some ts) count same =
 
 pub index_form : (p : ProgramView) (s : ScopeContents) (at : Place) (e : NumberedExp)
     (xs : NumberedExps) (place : Place)
-    (o : Option ValueType) (t : TypedExpr) (a : Operands) (count : ℕ) (own j : TypedExpr)
+    (o : Option ValueType) (t : TypedExpr) (a : OperandsTyping) (count : ℕ) (own j : TypedExpr)
     → IsTypedExpr p s e t → place ≡ place_of_numbered e
     → o ≡ operand (type_result p s e) → AreTypedOperands p s xs [] a
     → count ≡ length (places_of xs) → typed_of own

@@ -16,7 +16,7 @@ use Rattle.ti_rules.specs.Broken.Misplaced.{misplaced_at, misplaced, all_misplac
 use Rattle.ti_rules.specs.Broken.Expressions.{places_of, refusals_at, exp_refusals}
 use Rattle.ti_rules.proofs.Lemmas.{first_append, first_append_each}
 use Rattle.ti_types.specs.declared.typed_expr.TypedExpr.{TypedExpr}
-use Rattle.ti_types.specs.declared.operands.Operands.{Operands}
+use Rattle.ti_types.specs.declared.operands.OperandsTyping.{OperandsTyping}
 use Rattle.ti_types.specs.Results.{typed_of, IsTypedExpr}
 use Rattle.ti_types.specs.Mirrors.Arguments.{OperandSummary, summary, summary_of, prepend}
 use Rattle.ti_types.specs.Mirrors.Walk.{AreTypedOperands, operands_before, operands_in}
@@ -31,7 +31,7 @@ rest_of xs i = numbered_exps (map expression_of (drop i xs))
 
 -- no operands
 pub none_found : (p : ProgramView) (s : ScopeContents) (us : List ValueType) (xs : NumberedExps)
-    (a : Operands)
+    (a : OperandsTyping)
     → xs ≡ NoExp → a.inner ≡ earliest [] → a.misplaced ≡ earliest []
     → option_map summary_of a.types ≡ Some (summary [] [] []) → AreTypedOperands p s xs us a
 none_found p s us xs a is is_inner is_misplaced is_types =
@@ -41,7 +41,7 @@ pub no_rest : (xs : List Expr) → rest_of xs (length xs) ≡ NoExp
 no_rest xs = ap (λ l. numbered_exps (map expression_of l)) (drop_all (length xs) xs (omega arith))
 
 -- the results with an operand prepended
-abbrev pub Prepended : Place → Option ValueType → TypedExpr → Operands → Operands → Type 0
+abbrev pub Prepended : Place → Option ValueType → TypedExpr → OperandsTyping → OperandsTyping → Type 0
 Prepended at u j a b =
     (b.inner ≡ earlier_of j.first a.inner)
     × (b.misplaced ≡ earlier_of (earliest (misplaced_at at (typed_of j))) a.misplaced)
@@ -51,7 +51,7 @@ Prepended at u j a b =
 
 -- one operand more
 pub one_more : (p : ProgramView) (s : ScopeContents) (us : List ValueType) (i : ℕ) (e : NumberedExp)
-    (rest : NumberedExps) (j : TypedExpr) (a b : Operands) (at : Place) (u : Option ValueType)
+    (rest : NumberedExps) (j : TypedExpr) (a b : OperandsTyping) (at : Place) (u : Option ValueType)
     → IsTypedExpr p s e j → at ≡ place_of_numbered e → u ≡ slice_get us i
     → AreTypedOperands p s rest (drop (i + 1) us) a → Prepended at u j a b
     → AreTypedOperands p s (MoreExp e rest) (drop i us) b
@@ -86,7 +86,7 @@ rest_back xs i d more_left le is_d =
 -- the one before a number
 pub arguments_back : (p : ProgramView) (s : ScopeContents) (us : List ValueType) (xs : List Expr)
     (i : ℕ)
-    (d : Expr) (j : TypedExpr) (a b : Operands) (at : Place) (u : Option ValueType) → 0 < i
+    (d : Expr) (j : TypedExpr) (a b : OperandsTyping) (at : Place) (u : Option ValueType) → 0 < i
     → i ≤ length xs
     → IsTypedExpr p s (expression_of d) j → d ≡ get_or xs (i - 1) d
     → at ≡ place_of_numbered (expression_of d) → u ≡ slice_get us (i - 1)
@@ -149,7 +149,7 @@ types_are p s (MoreRange (Stepped low high step) rest) =
     ∙ ap (append_both (append_both (append_both a b) c)) (types_are p s rest)
 
 -- what the typing results of the bounds and steps of ranges say of the ranges
-pub ranges_told : (p : ProgramView) (s : ScopeContents) (rs : NumberedRanges) (a : Operands)
+pub ranges_told : (p : ProgramView) (s : ScopeContents) (rs : NumberedRanges) (a : OperandsTyping)
     → AreTypedOperands p s (operands_in rs) [] a
     → (a.inner ≡ earliest (flat_map (refusals_at p s) (parts_of_ranges rs)))
     × (a.misplaced ≡ earliest (bounds_misplaced p s rs))

@@ -9,7 +9,7 @@ ghost use Rattle.ti_rules.specs.Mirrors.First.{earliest};
 ghost use Rattle.ti_rules.specs.Broken.Expressions.{places_of};
 ghost use Rattle.ti_rules.specs.Broken.Calls.{first_misfit};
 ghost use Rattle.ti_types.specs.Results.{typed_of};
-ghost use Rattle.ti_types.specs.Mirrors.Arguments.{summary_of, types_in, parameter_types, method_call, summary_params_refusal, summary_call_refusal, summary_call};
+ghost use Rattle.ti_types.specs.Mirrors.Arguments.{summary_of, types_in, parameter_types, method_call_typing, summary_params_refusal, summary_call_refusal, summary_call};
 
 use crate::fitting::where_true;
 use crate::operands::OperandTypes;
@@ -77,7 +77,7 @@ fn typed_method_call<'a>(
     args: &[Expr],
     misfit: Option<Refusal>,
 ) -> TypedExpr<'a>
-    ensures known { typed_of result ≡ method_call (numbered_method_of method.now)
+    ensures known { typed_of result ≡ method_call_typing (numbered_method_of method.now)
         (length args.now) misfit }
     ensures first { result.first
         ≡ summary_params_refusal place (places_of (numbered_exps (map expression_of args.now)))

@@ -14,7 +14,7 @@ ghost use Rattle.ti_types.specs.Results.{typed_of, IsTypedExpr, receiver_type};
 
 use crate::arguments::{parameter_type, typed_call};
 use crate::nodes::{index, member, point, select};
-use crate::operands::Operands;
+use crate::operands::OperandsTyping;
 use crate::rects::rect;
 use crate::typed_expr::{TypedExpr, TypedTarget};
 use ti_base::Place;
@@ -38,11 +38,11 @@ impl<'a> TypeChecker<'a> {
         scope: &'a Scope,
         exprs: &'a [Expr],
         method: Option<&'a Method>,
-    ) -> Operands<'a>
+    ) -> OperandsTyping<'a>
         ensures { AreTyped self.now scope.now (numbered_exps (map expression_of exprs.now))
             (parameter_types (option_map (λ method. numbered_method_of method.now) method.entry)) result }
     {
-        let mut found = Operands::none();
+        let mut found = OperandsTyping::none();
         for i in (0..exprs.len()).rev() {
             let x = &exprs[i];
             let judged = self.exp(scope, x);
@@ -53,7 +53,12 @@ impl<'a> TypeChecker<'a> {
 
     /// The typing result of a bound or a step of a range, before that of others.
     #[cycle(exp)]
-    fn operand_before(&self, scope: &'a Scope, expr: &'a Expr, others: Operands<'a>) -> Operands<'a>
+    fn operand_before(
+        &self,
+        scope: &'a Scope,
+        expr: &'a Expr,
+        others: OperandsTyping<'a>,
+    ) -> OperandsTyping<'a>
         ensures { (rest : NumberedExps) → AreTyped self.now scope.now rest [] others.entry
             → AreTyped self.now scope.now (MoreExp (expression_of expr.now) rest) [] result }
     {
@@ -63,7 +68,12 @@ impl<'a> TypeChecker<'a> {
 
     /// The typing result of the bounds and the step of a range, before that of others.
     #[cycle(exp)]
-    fn range(&self, scope: &'a Scope, range: &'a Range, others: Operands<'a>) -> Operands<'a>
+    fn range(
+        &self,
+        scope: &'a Scope,
+        range: &'a Range,
+        others: OperandsTyping<'a>,
+    ) -> OperandsTyping<'a>
         ensures { (rest : NumberedExps) → AreTyped self.now scope.now rest [] others.entry
             → AreTyped self.now scope.now (operands_before (bound_of range.now) rest) [] result }
     {
@@ -82,11 +92,11 @@ impl<'a> TypeChecker<'a> {
 
     /// The typing result of the bounds and steps of a list of ranges.
     #[cycle(exp)]
-    pub(crate) fn ranges(&self, scope: &'a Scope, ranges: &'a [Range]) -> Operands<'a>
+    pub(crate) fn ranges(&self, scope: &'a Scope, ranges: &'a [Range]) -> OperandsTyping<'a>
         ensures { AreTyped self.now scope.now
             (operands_in (numbered_ranges (map bound_of ranges.now))) [] result }
     {
-        let mut found = Operands::none();
+        let mut found = OperandsTyping::none();
         for i in (0..ranges.len()).rev() {
             found = self.range(scope, &ranges[i], found);
         }

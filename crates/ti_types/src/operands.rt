@@ -35,7 +35,7 @@ pub struct OperandTypes<'a> {
 
 /// The typing result of a list of operands.
 #[derive(Clone, Copy)]
-pub struct Operands<'a> {
+pub struct OperandsTyping<'a> {
     /// The first type error inside the operands.
     pub inner: Option<Refusal>,
     /// The first expression that can't be an operand (Y6): a call of a declared method or an expression without a value.
@@ -121,15 +121,15 @@ fn maybe_prepend<'a>(
     }
 }
 
-impl<'a> Operands<'a> {
+impl<'a> OperandsTyping<'a> {
     /// The result of an empty list.
     #[tactic(auto, unfolding(ti_rules::specs::Mirrors::First::earliest))]
-    pub fn none() -> Operands<'a>
+    pub fn none() -> OperandsTyping<'a>
         ensures inner { result.inner ≡ earliest [] }
         ensures misplaced { result.misplaced ≡ earliest [] }
         ensures types { option_map summary_of result.types ≡ Some (summary [] [] []) }
     {
-        Operands {
+        OperandsTyping {
             inner: None,
             misplaced: None,
             types: Some(OperandTypes {
@@ -149,7 +149,7 @@ impl<'a> Operands<'a> {
         place: Place,
         typed: TypedExpr<'a>,
         wanted: Option<TyRef<'a>>,
-    ) -> Operands<'a>
+    ) -> OperandsTyping<'a>
         ensures inner { result.inner ≡ sooner_of typed.entry.first self.entry.inner }
         ensures misplaced { result.misplaced
             ≡ sooner_of (earliest (misplaced_at place (typed_of typed.entry)))
@@ -159,7 +159,7 @@ impl<'a> Operands<'a> {
             (option_map summary_of self.entry.types)
             (λ u others. Some (prepend place (option_map ty_view wanted.entry) u others)) }
     {
-        Operands {
+        OperandsTyping {
             inner: earlier_of(typed.first, self.inner),
             misplaced: earlier_of(typed.misplaced_refusal(place), self.misplaced),
             types: maybe_prepend(place, wanted, typed.operand(), self.types),
@@ -189,7 +189,12 @@ impl<'a> TypedExpr<'a> {
     }
 
     /// Adds the errors of this receiver, at `inner`, and of these operands to `own`, the result of the enclosing form by itself.
-    pub(crate) fn with(self, inner: Place, found: Operands<'a>, own: TypedExpr<'a>) -> TypedExpr<'a>
+    pub(crate) fn with(
+        self,
+        inner: Place,
+        found: OperandsTyping<'a>,
+        own: TypedExpr<'a>,
+    ) -> TypedExpr<'a>
         ensures known { typed_of result ≡ typed_of own.entry }
         ensures first { result.first ≡ sooner_of (sooner_of self.entry.first found.entry.inner)
             (sooner_of

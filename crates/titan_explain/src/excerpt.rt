@@ -5,7 +5,7 @@ use crate::source::{Window, line_of, shown, token_at, token_len, width_of, windo
 use crate::wording::{help, primary_label, reason_label};
 use std::alloc::{AllocError, AllocFailed, Global};
 use ti_base::Place;
-use ti_explain::{Explanation, Reason, ReasonKind};
+use ti_explain::{Explanation, ReasonKind, RefusalReason};
 use ti_rules::{Refusal, rule_text};
 
 // The largest number of marks that are shown.
@@ -29,30 +29,30 @@ impl<T: Drop> From<AllocFailed<T>> for NoMemory {
 
 // A mark below a line: the position of its first byte, what it is drawn with, and what it says.
 #[derive(Drop)]
-struct Mark {
+struct Underline {
     place: Place,
     drawn: char,
     label: String,
 }
 
 // The mark of the refusal itself. Where the text says what could stand there, its label does.
-fn own_mark(alloc: Global, text: &[u8], explanation: &Explanation) -> Result<Mark, NoMemory> {
+fn own_mark(alloc: Global, text: &[u8], explanation: &Explanation) -> Result<Underline, NoMemory> {
     let refusal = explanation.refusal;
     let token = shown(alloc, token_at(text, refusal.place))?;
     let mut label = expectation(alloc, &explanation.reasons, token.as_str())?;
     if label.is_empty() {
         label.push_str(primary_label(refusal.rule))?;
     }
-    Ok(Mark {
+    Ok(Underline {
         place: refusal.place,
         drawn: '^',
         label,
     })
 }
 
-fn reason_mark(alloc: Global, text: &[u8], reason: &Reason) -> Result<Mark, NoMemory> {
+fn reason_mark(alloc: Global, text: &[u8], reason: &RefusalReason) -> Result<Underline, NoMemory> {
     let token = shown(alloc, token_at(text, reason.place))?;
-    Ok(Mark {
+    Ok(Underline {
         place: reason.place,
         drawn: '-',
         label: reason_label(alloc, &reason.kind, token.as_str())?,
@@ -60,12 +60,16 @@ fn reason_mark(alloc: Global, text: &[u8], reason: &Reason) -> Result<Mark, NoMe
 }
 
 // Whether the reason is said by the mark of the refusal itself.
-fn is_expectation(reason: &Reason) -> bool {
+fn is_expectation(reason: &RefusalReason) -> bool {
     matches!(reason.kind, ReasonKind::Expected(_))
 }
 
 // The marks of an explanation, in the order of the text.
-fn marks_of(alloc: Global, text: &[u8], explanation: &Explanation) -> Result<Vec<Mark>, NoMemory> {
+fn marks_of(
+    alloc: Global,
+    text: &[u8],
+    explanation: &Explanation,
+) -> Result<Vec<Underline>, NoMemory> {
     let mut marks = Vec::new(alloc);
     marks.push(own_mark(alloc, text, explanation)?)?;
     for reason in &explanation.reasons {
@@ -73,7 +77,7 @@ fn marks_of(alloc: Global, text: &[u8], explanation: &Explanation) -> Result<Vec
             marks.push(reason_mark(alloc, text, reason)?)?;
         }
     }
-    marks.sort_by_key(|mark: &Mark| (mark.place.line, mark.place.col))?;
+    marks.sort_by_key(|mark: &Underline| (mark.place.line, mark.place.col))?;
     Ok(marks)
 }
 
@@ -104,7 +108,7 @@ struct Margin {
 }
 
 impl Margin {
-    fn of(marks: &[Mark]) -> Margin {
+    fn of(marks: &[Underline]) -> Margin {
         let mut width = 1;
         for mark in marks {
             width = width.max(digits(mark.place.line));
@@ -153,7 +157,7 @@ fn push_mark(
     out: &mut String,
     margin: Margin,
     part: Window<'_>,
-    mark: &Mark,
+    mark: &Underline,
 ) -> Result<(), AllocError> {
     let at = (mark.place.col.saturating_sub(1) as usize).saturating_sub(part.before.len());
     let front = part.part.get(..at).unwrap_or(part.part);
@@ -176,7 +180,7 @@ fn push_excerpts(
     out: &mut String,
     text: &[u8],
     margin: Margin,
-    marks: &[Mark],
+    marks: &[Underline],
 ) -> Result<(), AllocError> {
     let mut last = 0;
     for mark in marks {

@@ -2,7 +2,7 @@
 
 use crate::excerpt::NoMemory;
 use std::alloc::{AllocError, Global};
-use ti_explain::{Reason, ReasonKind};
+use ti_explain::{ReasonKind, RefusalReason};
 
 // The largest number of texts that are listed.
 const MOST_TEXTS: usize = 8;
@@ -67,7 +67,7 @@ impl Group {
         }
     }
 
-    fn applies(self, reasons: &[Reason]) -> bool {
+    fn applies(self, reasons: &[RefusalReason]) -> bool {
         for key in self.keys().split(' ') {
             if !is_expected(reasons, key) {
                 return false;
@@ -86,14 +86,14 @@ impl Group {
     }
 }
 
-fn text_of(reason: &Reason) -> &[u8] {
+fn text_of(reason: &RefusalReason) -> &[u8] {
     match &reason.kind {
         ReasonKind::Expected(text) => text.as_bytes(),
         _ => b"",
     }
 }
 
-fn is_expected(reasons: &[Reason], text: &str) -> bool {
+fn is_expected(reasons: &[RefusalReason], text: &str) -> bool {
     for reason in reasons {
         if text_of(reason) == text.as_bytes() {
             return true;
@@ -103,7 +103,7 @@ fn is_expected(reasons: &[Reason], text: &str) -> bool {
 }
 
 // Whether a group that is said has this text.
-fn is_covered(reasons: &[Reason], text: &[u8]) -> bool {
+fn is_covered(reasons: &[RefusalReason], text: &[u8]) -> bool {
     for group in &GROUPS {
         if group.has(text) && group.applies(reasons) {
             return true;
@@ -132,7 +132,7 @@ fn push_text(out: &mut String, text: &[u8]) -> Result<(), AllocError> {
 }
 
 // The names of the groups that are said, then the texts that no group has.
-fn items_of(alloc: Global, reasons: &[Reason]) -> Result<Vec<String>, NoMemory> {
+fn items_of(alloc: Global, reasons: &[RefusalReason]) -> Result<Vec<String>, NoMemory> {
     let mut items = Vec::new(alloc);
     for group in &GROUPS {
         if !group.name().is_empty() && group.applies(reasons) {
@@ -155,7 +155,7 @@ fn items_of(alloc: Global, reasons: &[Reason]) -> Result<Vec<String>, NoMemory> 
 /// What is expected in place of the token, as `expected A, B or C, found D`; empty if the reasons don't say.
 pub(crate) fn expectation(
     alloc: Global,
-    reasons: &[Reason],
+    reasons: &[RefusalReason],
     token: &str,
 ) -> Result<String, NoMemory> {
     let items = items_of(alloc, reasons)?;

@@ -11,15 +11,15 @@ use Rattle.ti_rules.specs.StmtInContext.{StmtContext, StmtInContext, in_loop, in
 use Rattle.ti_rules.specs.SingleRules.{standing_single_refusals}
 use Rattle.ti_lang.specs.Typing.Effects.{return_acts, jump_acts}
 use Rattle.ti_single.specs.EffectsAt.{effects_in_loop}
-use Rattle.ti_explain.specs.declared.reason.Reason.{Reason}
-use Rattle.ti_explain.specs.SingleReasons.{head_refusals, statement_reasons, method_reasons}
+use Rattle.ti_explain.specs.declared.reason.RefusalReason.{RefusalReason}
+use Rattle.ti_explain.specs.SingleReasons.{single_head_refusals, statement_reasons, head_reasons}
 
 -- the first refusal of the statement by itself is this one
 abbrev pub IsRefusedAs : ProgramView → Refusal → StmtInContext → Type 0
 IsRefusedAs p refusal x = earliest (standing_single_refusals p x) ≡ Some refusal
 
 -- the reasons are those of a statement of the list that is refused so; if there are none, no statement of the list is
-abbrev pub IsFound : ProgramView → Refusal → List StmtInContext → Option (Vec Reason Global) → Type 0
+abbrev pub IsFound : ProgramView → Refusal → List StmtInContext → Option (Vec RefusalReason Global) → Type 0
 IsFound p refusal list None = (x : StmtInContext) → Contains list x → IsRefusedAs p refusal x → ⊥
 IsFound p refusal list (Some reasons) =
     (x : StmtInContext) × Contains list x × IsRefusedAs p refusal x × (reasons.items ≡ statement_reasons p x refusal)
@@ -42,16 +42,16 @@ in_this_loop p around x = record around { jump_has = Some (jump_acts (return_act
 -- ---- methods
 
 -- the reasons are those of the head of the method, which is refused so; if there are none, it isn't
-abbrev pub IsFoundInHead : ProgramView → Refusal → NumberedMethod → Option (Vec Reason Global) → Type 0
-IsFoundInHead p refusal m None = earliest (head_refusals p m) ≡ Some refusal → ⊥
-IsFoundInHead p refusal m (Some reasons) = (earliest (head_refusals p m) ≡ Some refusal) × (reasons.items ≡ method_reasons p m refusal.rule)
+abbrev pub IsFoundInHead : ProgramView → Refusal → NumberedMethod → Option (Vec RefusalReason Global) → Type 0
+IsFoundInHead p refusal m None = earliest (single_head_refusals p m) ≡ Some refusal → ⊥
+IsFoundInHead p refusal m (Some reasons) = (earliest (single_head_refusals p m) ≡ Some refusal) × (reasons.items ≡ head_reasons p m refusal.rule)
 
 -- the reasons are those of the head or of a statement of the method
-abbrev pub IsFoundInMethod : ProgramView → Refusal → NumberedMethod → Option (Vec Reason Global) → Type 0
+abbrev pub IsFoundInMethod : ProgramView → Refusal → NumberedMethod → Option (Vec RefusalReason Global) → Type 0
 IsFoundInMethod p refusal m None = IsFoundInHead p refusal m None × IsFound p refusal (standing_in_method p m) None
 IsFoundInMethod p refusal m (Some reasons) =
     IsFoundInHead p refusal m (Some reasons) ⊎ IsFound p refusal (standing_in_method p m) (Some reasons)
 
 -- the same for the method of this number
-abbrev pub IsFoundAt : ProgramView → Refusal → ℕ → Option (Vec Reason Global) → Type 0
+abbrev pub IsFoundAt : ProgramView → Refusal → ℕ → Option (Vec RefusalReason Global) → Type 0
 IsFoundAt p refusal index found = (m : NumberedMethod) × (slice_get p.methods index ≡ Some m) × IsFoundInMethod p refusal m found

@@ -7,8 +7,8 @@ use Rattle.ti_rules.specs.declared.rule.Rule.TheVariants.{G1}
 use Rattle.ti_syntax.specs.declared.token.Token.{Token}
 use Rattle.ti_syntax.specs.declared.token.TokenKind.{TokenKind}
 use Rattle.ti_syntax.specs.Spelling.{BeginsText, IsShallow}
-use Rattle.ti_explain.specs.declared.reason.Reason.{Reason}
-use Rattle.ti_explain.specs.Expected.{IsTokenOf, CanFollow, expected_reason, nowhere, IsAlone}
+use Rattle.ti_explain.specs.declared.reason.RefusalReason.{RefusalReason}
+use Rattle.ti_explain.specs.Expected.{IsTokenOf, CanFollow, expected_reason, zero_place, IsAlone}
 
 -- the kind of the first of two tokens
 abbrev pub IsOnly : List Token → Option TokenKind → Type 0
@@ -23,19 +23,19 @@ IsKindOf text (Some kind) = (t : Token) × IsTokenOf text t × (t.kind ≡ kind)
 -- the tokens before one that doesn't fit: none is too deep, and none is nowhere
 pub record IsFront (front : List Token) : Type 0 where
   pub shallow : IsShallow front
-  pub somewhere : (k : ℕ) (t : Token) → slice_get front k ≡ Some t → t.place ≡ nowhere → ⊥
+  pub somewhere : (k : ℕ) (t : Token) → slice_get front k ≡ Some t → t.place ≡ zero_place → ⊥
 
 -- the tokens are these, then this one, then one that is nowhere
 pub record IsTrial (front : List Token) (t : Token) (tokens : List Token) : Type 0 where
   pub is_front : IsFront front
-  pub placed : t.place ≡ nowhere → ⊥
+  pub placed : t.place ≡ zero_place → ⊥
   pub end : Token
-  pub at_end : end.place ≡ nowhere
+  pub at_end : end.place ≡ zero_place
   pub is : tokens ≡ front ++ (t ∷ end ∷ [])
 
 -- the parser refuses at the end of a trial, or for its depth
 abbrev pub moves_on : Rule → Place → Bool
-moves_on G1 at = same_place at nowhere
+moves_on G1 at = same_place at zero_place
 moves_on rule at = true
 
 -- all but the last begin some program if and only if the test holds
@@ -44,7 +44,7 @@ BeginsIf tokens true = (front : List Token) (t : Token) → IsTrial front t toke
 BeginsIf tokens false = (front : List Token) (t : Token) → IsTrial front t tokens → BeginsText (front ++ t ∷ []) → ⊥
 
 -- after one text more, there is its reason if its token can follow, else there isn't
-abbrev pub Tries : List Token → Place → List ℕ → List Reason → List Reason → Type 0
+abbrev pub Tries : List Token → Place → List ℕ → List RefusalReason → List RefusalReason → Type 0
 Tries front at text before after =
     (CanFollow front at text × (after ≡ before ++ expected_reason at text ∷ [])) ⊎ ((CanFollow front at text → ⊥) × (after ≡ before))
 

@@ -9,7 +9,7 @@ use Rattle.ti_syntax.specs.declared.token.TokenKind.TheVariants as k
 use Rattle.ti_syntax.specs.declared.tree.stmts.Stmt.{Stmt}
 use Rattle.ti_syntax.specs.declared.tree.classes.ModifierWord.{ModifierWord}
 use Rattle.ti_syntax.specs.declared.tree.classes.Modifier.{Modifier}
-use Rattle.ti_syntax.specs.declared.tree.classes.Param.{Param}
+use Rattle.ti_syntax.specs.declared.tree.classes.ParamDecl.{ParamDecl}
 use Rattle.ti_syntax.specs.declared.tree.classes.Member.{Member}
 use Rattle.ti_syntax.specs.declared.tree.classes.Class.{Class}
 use Rattle.ti_syntax.specs.Trees.Statements.{Stm, MaybeStm, NoStm, SomeStm}
@@ -58,7 +58,7 @@ ReturnsAfter read out (Err e) new = Fails out e new
 abbrev pub modifiers_of : Vec Modifier Global → List Modifier
 modifiers_of v = v.items
 
-abbrev pub param_list_of : Vec Param Global → List ParamTree
+abbrev pub param_list_of : Vec ParamDecl Global → List ParamTree
 param_list_of v = map param_of v.items
 
 abbrev pub members_of : Vec Member Global → List MemberTree

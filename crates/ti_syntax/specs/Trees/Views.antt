@@ -13,16 +13,16 @@ use Rattle.ti_syntax.specs.declared.tree.stmts.Dims.{Dims}
 use Rattle.ti_syntax.specs.declared.tree.stmts.Dims.TheVariants as d
 use Rattle.ti_syntax.specs.declared.tree.stmts.Init.{Init}
 use Rattle.ti_syntax.specs.declared.tree.stmts.Init.TheVariants as i
-use Rattle.ti_syntax.specs.declared.tree.stmts.Printed.{Printed}
-use Rattle.ti_syntax.specs.declared.tree.stmts.Printed.TheVariants as p
+use Rattle.ti_syntax.specs.declared.tree.stmts.PrintArgument.{PrintArgument}
+use Rattle.ti_syntax.specs.declared.tree.stmts.PrintArgument.TheVariants as p
 use Rattle.ti_syntax.specs.declared.tree.stmts.Stmt.{Stmt, Row_of-Stmt, end_of-Stmt, more_of-Stmt, Held-Stmt-If-3, None', Some'}
 use Rattle.ti_syntax.specs.declared.tree.stmts.Stmt.TheVariants as t
 use Rattle.ti_syntax.specs.declared.tree.classes.Field.{Field}
-use Rattle.ti_syntax.specs.declared.tree.classes.Param.{Param}
+use Rattle.ti_syntax.specs.declared.tree.classes.ParamDecl.{ParamDecl}
 use Rattle.ti_syntax.specs.declared.tree.classes.Params.{Params}
 use Rattle.ti_syntax.specs.declared.tree.classes.Params.TheVariants as params
-use Rattle.ti_syntax.specs.declared.tree.classes.ResultType.{ResultType}
-use Rattle.ti_syntax.specs.declared.tree.classes.ResultType.TheVariants as result
+use Rattle.ti_syntax.specs.declared.tree.classes.ResultDecl.{ResultDecl}
+use Rattle.ti_syntax.specs.declared.tree.classes.ResultDecl.TheVariants as result
 use Rattle.ti_syntax.specs.declared.tree.classes.Method.{Method}
 use Rattle.ti_syntax.specs.declared.tree.classes.Member.{Member}
 use Rattle.ti_syntax.specs.declared.tree.classes.Member.TheVariants as m
@@ -101,7 +101,7 @@ init_of (i.NewObject at region name_at name) = s.NewObject at (maybe_of exp_of r
 init_of (i.NewGrid at region element dims_at dims) = s.NewGrid at (maybe_of exp_of region) (type_tree_of element) dims_at (dims_of dims)
 init_of (i.Broadcast at a root) = s.Broadcast at (exp_of a) (exp_of root)
 
-abbrev pub print_of : Printed → PrintTree
+abbrev pub print_of : PrintArgument → PrintTree
 print_of p.Nothing = s.Nothing
 print_of (p.Text text) = s.Text text
 print_of (p.Value a) = s.Expression (exp_of a)
@@ -146,14 +146,14 @@ stms_of v = map stm_of v.items
 abbrev pub field_of : Field → FieldTree
 field_of f = record { modifiers = f.modifiers.items; ty = type_tree_of f.ty; place = f.place; name = f.name }
 
-abbrev pub param_of : Param → ParamTree
+abbrev pub param_of : ParamDecl → ParamTree
 param_of p = record { ty = type_tree_of p.ty; place = p.place; name = p.name }
 
 abbrev pub params_of : Params → ParamsTree
 params_of (params.MainArgs at name) = c.MainArgs at name
 params_of (params.Typed v) = c.Params (map param_of v.items)
 
-abbrev pub result_of : ResultType → ResultTree
+abbrev pub result_of : ResultDecl → ResultTree
 result_of (result.Void at) = c.Void at
 result_of (result.Typed ty) = c.Typed (type_tree_of ty)
 

@@ -34,7 +34,7 @@ pub struct Field {
 
 /// A parameter declaration; `place` is the position of its name.
 #[derive(Drop)]
-pub struct Param {
+pub struct ParamDecl {
     pub ty: TypeName,
     pub place: Place,
     pub name: Spelled,
@@ -45,12 +45,12 @@ pub struct Param {
 pub enum Params {
     /// `String[] x`, the parameter of `main`, at the name.
     MainArgs(Place, Spelled),
-    Typed(Vec<Param>),
+    Typed(Vec<ParamDecl>),
 }
 
 /// A method's declared result.
 #[derive(Drop)]
-pub enum ResultType {
+pub enum ResultDecl {
     /// `void`, at its keyword.
     Void(Place),
     Typed(TypeName),
@@ -60,7 +60,7 @@ pub enum ResultType {
 #[derive(Drop)]
 pub struct Method {
     pub modifiers: Vec<Modifier>,
-    pub result: ResultType,
+    pub result: ResultDecl,
     pub place: Place,
     pub name: Spelled,
     pub params: Params,

@@ -52,7 +52,7 @@ pub enum StepOperator {
 
 /// The argument of a print.
 #[derive(Drop)]
-pub enum Printed {
+pub enum PrintArgument {
     Nothing,
     /// A string literal.
     Text(Spelled),
@@ -95,7 +95,7 @@ pub enum Stmt {
     /// A call as a statement.
     Call(Expr),
     /// A print, at `println`.
-    Print(Place, Printed),
+    Print(Place, PrintArgument),
     /// `Ti.barrier()`, at `barrier`.
     Barrier(Place),
     /// `break`, at its keyword.

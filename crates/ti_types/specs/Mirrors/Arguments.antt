@@ -100,8 +100,8 @@ params_accept MainArgs count misfit = false
 params_accept (Params params) count misfit = (count == length params) && is_none misfit
 
 -- the typing result of a call of this method with `count` arguments whose first misfit is this
-abbrev pub method_call : NumberedMethod → ℕ → Option Refusal → ExprTyping
-method_call m count misfit = record {
+abbrev pub method_call_typing : NumberedMethod → ℕ → Option Refusal → ExprTyping
+method_call_typing m count misfit = record {
   type = where_true (params_accept m.params count misfit)
       (result_type m);
   is_call = true;
@@ -123,4 +123,4 @@ summary_call_refusal at places (Some m) otherwise count (Some summary) = summary
 abbrev pub summary_call : Option NumberedMethod → ℕ → Option OperandSummary → ExprTyping
 summary_call m count None = plain None
 summary_call None count (Some told) = plain None
-summary_call (Some m) count (Some told) = method_call m count told.misfit
+summary_call (Some m) count (Some told) = method_call_typing m count told.misfit

@@ -14,7 +14,7 @@ use Rattle.ti_rules.specs.Broken.Misplaced.{all_misplaced}
 use Rattle.ti_rules.specs.Broken.Expressions.{places_of, refusals_at}
 use Rattle.ti_types.specs.declared.exprs.TypeChecker.{TypeChecker}
 use Rattle.ti_types.specs.declared.typed_expr.TypedExpr.{TypedExpr}
-use Rattle.ti_types.specs.declared.operands.Operands.{Operands}
+use Rattle.ti_types.specs.declared.operands.OperandsTyping.{OperandsTyping}
 use Rattle.ti_types.specs.declared.operands.OperandTypes.{OperandTypes}
 use Rattle.ti_types.specs.Results.{IsTypedExpr}
 use Rattle.ti_types.specs.Mirrors.Arguments.{summary, summary_of}
@@ -29,7 +29,7 @@ AreOperandResults p s xs us inner placed types =
     × (option_map summary_of types ≡ option_map (summary (places_of xs) us) (operands p s xs))
 
 -- the typing result of operands is right
-abbrev pub AreTypedOperands : ProgramView → ScopeContents → NumberedExps → List ValueType → Operands
+abbrev pub AreTypedOperands : ProgramView → ScopeContents → NumberedExps → List ValueType → OperandsTyping
     → Type 0
 AreTypedOperands p s xs us a = AreOperandResults p s xs us a.inner a.misplaced a.types
 
@@ -37,7 +37,7 @@ AreTypedOperands p s xs us a = AreOperandResults p s xs us a.inner a.misplaced a
 abbrev pub IsTyped : TypeChecker → Scope → NumberedExp → TypedExpr → Type 0
 IsTyped c s e j = IsTypedExpr (program_of c.program.now) (contents_of s) e j
 
-abbrev pub AreTyped : TypeChecker → Scope → NumberedExps → List ValueType → Operands → Type 0
+abbrev pub AreTyped : TypeChecker → Scope → NumberedExps → List ValueType → OperandsTyping → Type 0
 AreTyped c s xs us a = AreTypedOperands (program_of c.program.now) (contents_of s) xs us a
 
 -- the bounds and the step of a range, and further operands

@@ -2,7 +2,7 @@ use Rattle.std.proofs.Common.{◌≡◌, ℕ, ◌+◌, ◌<◌, List, ◌∷◌,
 use Rattle.std.proofs.lemmas.List.{drop_more, drop_all}
 use Rattle.std.proofs.lemmas.Option.{slice_get_read}
 use Rattle.ti_heap.specs.declared.allocation.Allocation.{Allocation}
-use Rattle.ti_heap.specs.Places.{inside}
+use Rattle.ti_heap.specs.Places.{places_in_region}
 use Rattle.ti_heap.specs.Things.{drop_if_in, changed_at}
 use Rattle.ti_heap.proofs.Lists.{set_changed}
 use Rattle.ti_heap.proofs.Costs.{cost_set, cost_within}
@@ -11,11 +11,11 @@ use Rattle.ti_heap.proofs.proc_heap.drop_all.Goals as goal
 
 -- one turn: what stands at the first of the places that are left is dropped
 module _ (r : ℕ) (pos : 0 < r) (xs : List Allocation) (places : List ℕ) (n : ℕ)
-    (turn : n < length places) (left : inside r xs ≡ drop n places) where
+    (turn : n < length places) (left : places_in_region r xs ≡ drop n places) where
   abbrev place : ℕ
   place = slice_index_or places n 0
 
-  now : inside r xs ≡ place ∷ drop (n + 1) places
+  now : places_in_region r xs ≡ place ∷ drop (n + 1) places
   now = left ∙ drop_more places n 0 turn
 
   within : place < length xs
@@ -27,9 +27,9 @@ module _ (r : ℕ) (pos : 0 < r) (xs : List Allocation) (places : List ℕ) (n :
         ap (λ (y : Allocation). set xs place y) gone
         ∙ set_changed xs place (drop_if_in r) t (slice_get_read xs (length xs) place t refl within is)
 
-    left_after : inside r (set xs place new) ≡ drop (n + 1) places
+    left_after : places_in_region r (set xs place new) ≡ drop (n + 1) places
     left_after =
-        ap (inside r) changed ∙ (next_place r pos xs place (drop (n + 1) places) now).1
+        ap (places_in_region r) changed ∙ (next_place r pos xs place (drop (n + 1) places) now).1
 
     ends_after : map (drop_if_in r) (set xs place new) ≡ map (drop_if_in r) xs
     ends_after = ap (map (drop_if_in r)) changed ∙ dropped_once r place xs

@@ -1,7 +1,7 @@
 use Rattle.std.proofs.Common.{rules, arith}
 use Rattle.std.proofs.lemmas.Bool.Decides.{nat_tests}
 use Rattle.std.proofs.lemmas.Grind.{common_steps}
-use Rattle.ti_lsp_frames.specs.Reading.{Fails, FailsLine}
+use Rattle.ti_lsp_frames.specs.Reading.{FailsToRead, FailsLine}
 use Rattle.ti_lsp_frames.proofs.Headers.{header_read, fails_line, fails_no_next, fails_malformed, fails_again, fails_no_length, fails_many}
 use Rattle.ti_lsp_frames.proofs.message.read_header.Goals as goal
 
@@ -9,7 +9,7 @@ pub returns-in_err-line-clause-error : goal.returns-in_err-line-clause-error
 returns-in_err-line-clause-error g c =
     let e = c.in_err-line.field-0.0 in
     let line : FailsLine (g.R.Read.remaining c.loop-count.reader) (g.R.Read.remaining c.read_line.new.reader) e = c.in_err-line.ensures.error in
-    let fails : Fails (g.R.Read.remaining c.args.reader.now) (g.R.Read.remaining c.read_line.new.reader) e =
+    let fails : FailsToRead (g.R.Read.remaining c.args.reader.now) (g.R.Read.remaining c.read_line.new.reader) e =
     fails_line _ (g.R.Read.remaining c.loop-count.reader) _ c.loop-count.length c.loop-count.count e c.loop-count.invariant (omega arith) line in
     grind (arith, common_steps)
 

@@ -3,7 +3,7 @@ use Rattle.std.proofs.lemmas.Bool.{cases_eq, eq-eqb, ne_eqb}
 use Rattle.std.proofs.lemmas.List.{drop_all, take_all, length-map}
 use Rattle.ti_heap.specs.declared.allocation.Allocation.{Allocation}
 use Rattle.ti_heap.specs.declared.region_index.RegionIndex.{RegionIndex}
-use Rattle.ti_heap.specs.Places.{inside, listed, IsIndex, IsShare}
+use Rattle.ti_heap.specs.Places.{places_in_region, listed, IsIndex, IsShare}
 use Rattle.ti_heap.specs.Things.{drop_if_in, total_cost}
 use Rattle.ti_heap.proofs.Places.{no_place, none_inside, inside_kept}
 use Rattle.ti_heap.proofs.proc_heap.ProcHeap.drop_region.Goals as goal
@@ -24,7 +24,7 @@ module _ (r : ℕ) (pos : 0 < r) (old new : RegionIndex) (xs : List Allocation)
   dropped_index : IsIndex old xs → IsIndex new (map (drop_if_in r) xs)
   dropped_index was q at = ⊎_elim
       (λ e. listed_by q true (eq-eqb q r e) ∙ sym (none_inside r pos 0 xs)
-      ∙ ap (λ (k : ℕ). inside k (map (drop_if_in r) xs)) (sym e))
+      ∙ ap (λ (k : ℕ). places_in_region k (map (drop_if_in r) xs)) (sym e))
       (λ e. listed_by q false (ne_eqb q r e) ∙ was q at ∙ sym (inside_kept r q e at xs))
       (cases_eq q r)
 
@@ -59,6 +59,6 @@ pub returns-in-None : goal.returns-in-None
 returns-in-None c =
     let r = c.args.region in
     let xs = c.self.inside.things.items in
-    let none : inside r xs ≡ [] =
+    let none : places_in_region r xs ≡ [] =
     sym (c.in-None.ensures.taken ∙ c.self.invariant.indexed r c.requires) in
     sym (no_place r 0 xs none) ∙ ap (map (drop_if_in r)) c.self.view_is

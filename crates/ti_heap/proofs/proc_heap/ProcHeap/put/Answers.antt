@@ -44,7 +44,7 @@ invariant_of-self c =
         most = c.self.invariant.counted.most;
       };
       indexed = λ r pos. c.self.invariant.indexed r pos
-          ∙ sym (ap (places.inside r) (changed a) ∙ inside_put r c.args.serial i c.args.value xs);
+          ∙ sym (ap (places.places_in_region r) (changed a) ∙ inside_put r c.args.serial i c.args.value xs);
     }
 
 pub returns : goal.returns

@@ -8,7 +8,7 @@ use Rattle.ti_lang.specs.Program.Views.{program_of, expression_of, bound_of, num
 use Rattle.ti_lang.specs.Typing.Expressions.{operand}
 use Rattle.ti_lang.proofs.Lemmas.{seen_static_call, seen_own_call, seen_numbered_point, seen_numbered_rect, seen_numbered_member}
 use Rattle.ti_lang.proofs.Lemmas.{seen_numbered_index, count_ranges}
-use Rattle.ti_types.specs.declared.operands.Operands.{Operands}
+use Rattle.ti_types.specs.declared.operands.OperandsTyping.{OperandsTyping}
 use Rattle.ti_types.specs.Mirrors.Arguments.{parameter_types}
 use Rattle.ti_types.specs.Mirrors.Walk.{AreOperandResults, IsTyped, AreTyped, operands_before, operands_in}
 use Rattle.ti_types.proofs.Walked.{rest_of, none_found, no_rest, one_more, arguments_back, ranges_from, no_ranges, ranges_back}
@@ -27,7 +27,7 @@ operands-loop-i-init t c =
 pub operands-loop-i-preserved : goal.operands-loop-i-preserved
 operands-loop-i-preserved t c =
     let l = c.loop-i.found in
-    let found : Operands = record { inner = l.0; misplaced = l.1.0; types = l.1.1.0 } in
+    let found : OperandsTyping = record { inner = l.0; misplaced = l.1.0; types = l.1.1.0 } in
     let e = c.prepend-found.ensures in
     arguments_back (program_of c.args.self.now.program.now) (contents_of c.args.scope.now) _
     c.args.exprs.now c.loop-i.i c.index-exprs-i.result c.exp-judged.result found
