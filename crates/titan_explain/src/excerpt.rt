@@ -1,31 +1,16 @@
 // The report of an explanation: the refusal, the lines of the text that matter with marks below them, and help.
 
-use crate::expectation::expectation;
-use crate::source::{Window, line_of, shown, token_at, token_len, width_of, window_around};
-use crate::wording::{help, primary_label, reason_label};
-use std::alloc::{AllocError, AllocFailed, Global};
+use crate::source::{Window, width_of, window_around};
+use std::alloc::{AllocError, Global};
 use ti_base::Place;
 use ti_explain::{Explanation, ReasonKind, RefusalReason};
 use ti_rules::{Refusal, rule_text};
+use ti_wording::{
+    NoMemory, expectation, help, line_of, primary_label, reason_label, shown, token_at, token_len,
+};
 
 // The largest number of marks that are shown.
 const MOST_MARKS: usize = 6;
-
-/// Want of memory.
-#[derive(Clone, Copy)]
-pub(crate) struct NoMemory;
-
-impl From<AllocError> for NoMemory {
-    fn from(_: AllocError) -> NoMemory {
-        NoMemory
-    }
-}
-
-impl<T: Drop> From<AllocFailed<T>> for NoMemory {
-    fn from(_: AllocFailed<T>) -> NoMemory {
-        NoMemory
-    }
-}
 
 // A mark below a line: the position of its first byte, what it is drawn with, and what it says.
 #[derive(Drop)]

@@ -7,9 +7,7 @@
 #![tactic(auto)]
 
 mod excerpt;
-mod expectation;
 mod source;
-mod wording;
 
 use excerpt::report;
 use std::alloc::Global;

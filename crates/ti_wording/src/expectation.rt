@@ -1,6 +1,6 @@
 // The tokens that could stand in the place of an unexpected one, in a few words.
 
-use crate::excerpt::NoMemory;
+use crate::memory::NoMemory;
 use std::alloc::{AllocError, Global};
 use ti_explain::{ReasonKind, RefusalReason};
 
@@ -153,7 +153,7 @@ fn items_of(alloc: Global, reasons: &[RefusalReason]) -> Result<Vec<String>, NoM
 }
 
 /// What is expected in place of the token, as `expected A, B or C, found D`; empty if the reasons don't say.
-pub(crate) fn expectation(
+pub fn expectation(
     alloc: Global,
     reasons: &[RefusalReason],
     token: &str,

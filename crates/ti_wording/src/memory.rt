@@ -1,0 +1,19 @@
+// The error of all functions that make texts.
+
+use std::alloc::{AllocError, AllocFailed};
+
+/// Out of memory.
+#[derive(Clone, Copy)]
+pub struct NoMemory;
+
+impl From<AllocError> for NoMemory {
+    fn from(_: AllocError) -> NoMemory {
+        NoMemory
+    }
+}
+
+impl<T: Drop> From<AllocFailed<T>> for NoMemory {
+    fn from(_: AllocFailed<T>) -> NoMemory {
+        NoMemory
+    }
+}
