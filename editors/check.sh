@@ -1,55 +1,46 @@
 #!/bin/sh
-# Compares what each installed editor highlights in sample.ti with sample.classes, which has a letter for each byte of it;
-# vim/test.vim has a table of the letters. Says which editors aren't installed, and which JSON files can't be read. The status is 1
-# if something differs or can't be read, else 0. If titan_lsp is built, its tests and those of its clients are run, too, each if what it
-# needs is installed.
+# Tests the files of this folder, each as far as what it needs is installed; says what isn't. The status is 1 if a test fails, else 0.
+#
+# - What each editor highlights in sample.ti is compared with sample.classes, which has a letter for each byte of it; vim/test.vim has a
+#   table of the letters. JSON files are read. The sessions are compared with the methods and errors of the server, and with its stored run.
+# - If titan_lsp is built of the sources as they are: its sessions, its other tests, and the clients with it.
 cd "$(dirname "$0")" || exit 1
 status=0
-
-# runs an editor with its arguments, where it is installed
-try() {
-  if ! command -v "$1" > /dev/null; then
-    echo "$1: not installed"
-  elif "$@" sample.ti sample.classes < /dev/null; then
-    echo "$1: as in sample.classes"
-  else
-    echo "$1: differs from sample.classes"
-    status=1
-  fi
-}
-
-try vim -N -u NONE -i NONE -n -es -S vim/test.vim
-try nvim -u NONE -i NONE -n -es -S vim/test.vim
-try emacs -Q --batch -l emacs/test.el
-for file in vscode/*.json vscode/syntaxes/*.json; do
-  python3 -m json.tool "$file" > /dev/null || { echo "$file: no JSON"; status=1; }
-done
-
 log=$(mktemp)
-# runs a test of the language server or of a client, if its program is installed
-serve() {
+
+# test NAME COMMAND: what the command writes is shown if it fails. An editor that stops at an error waits for keys, so there is a time limit.
+test_with() {
   name=$1
   shift
   if ! command -v "$1" > /dev/null; then
-    echo "$name: $1 isn't installed"
-  elif "$@" < /dev/null > "$log" 2>&1; then
-    echo "$name: passed"
+    echo "editors: $name: $1 isn't installed"
+  elif timeout 300 "$@" < /dev/null > "$log" 2>&1; then
+    echo "editors: $name: passed"
   else
     cat "$log"
-    echo "$name: failed"
+    echo "editors: $name: failed"
     status=1
   fi
 }
 
-TITAN_LSP=$PWD/../crates/titan_lsp/out/titan_lsp
-export TITAN_LSP
-if [ -x "$TITAN_LSP" ]; then
-  serve "server" python3 test_server.py "$TITAN_LSP"
-  serve "client for VS Code" node vscode/test.js "$TITAN_LSP"
-  serve "client for Neovim" nvim --headless -u NONE -c "luafile nvim/test_lsp.lua"
-  serve "client for Emacs" emacs --batch -L emacs -l emacs/test-lsp.el
+test_with "highlighting in Vim" vim -N -u NONE -i NONE -n -es -S vim/test.vim sample.ti sample.classes
+test_with "highlighting in Neovim" nvim -u NONE -i NONE -n -es -S vim/test.vim sample.ti sample.classes
+test_with "highlighting in Emacs" emacs -Q --batch -l emacs/test.el sample.ti sample.classes
+for file in vscode/*.json vscode/syntaxes/*.json kate/*.json; do
+  test_with "$file" python3 -m json.tool "$file"
+done
+test_with "kate/titan.xml" python3 -c "import sys, xml.dom.minidom; xml.dom.minidom.parse(sys.argv[1])" kate/titan.xml
+test_with "list of sessions" python3 sessions.py --check
+
+if TITAN_LSP=$(python3 ../tools/built.py titan_lsp); then
+  export TITAN_LSP
+  test_with "sessions" python3 sessions.py "$TITAN_LSP"
+  test_with "server" python3 test_server.py "$TITAN_LSP"
+  test_with "client for VS Code" node vscode/test.js "$TITAN_LSP"
+  test_with "client for Neovim" nvim --headless -u NONE -c "luafile nvim/test_lsp.lua"
+  test_with "client for Emacs" emacs --batch -L emacs -l emacs/test-lsp.el
 else
-  echo "titan_lsp: not built"
+  echo "editors: the server and its clients aren't tested"
 fi
 rm -f "$log"
 exit $status

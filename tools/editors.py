@@ -15,6 +15,7 @@ Read are, below crates/:
 GROUPS and PLACES say how each word is highlighted. The script ends with an error if a word of the sources has no group, if a group has
 a word that the sources don't have, or if it can't find a definition.
 """
+import html
 import json
 import re
 import sys
@@ -251,7 +252,45 @@ def textmate(g):
         yield '    ]},'
 
 
-FILES = {'vim/syntax/titan.vim': vim, 'emacs/titan-mode.el': emacs, 'vscode/syntaxes/titan.tmLanguage.json': textmate}
+def kate(g):
+    """Lists of words and rules of Kate. The first rule that matches goes first."""
+    name = f'[{g.first}][{g.more}]*'
+    last = f'(?![{g.more}])'
+
+    def rule(group, pattern):
+        return f'      <RegExpr attribute="{group}" context="#stay" String="{html.escape(pattern)}"/>'
+
+    for group, words in g.groups.items():
+        yield f'    <list name="{group}">' + ''.join(f'<item>{word}</item>' for word in words) + '</list>'
+    yield '    <contexts>'
+    yield '    <context name="program" attribute="normal" lineEndContext="#stay">'
+    for group in g.groups:
+        yield f'      <keyword attribute="{group}" context="#stay" String="{group}"/>'
+    yield rule('dimension', f'[1-{g.dimensions}]d{last}')
+    yield rule('method', rf'{name}(?=\s*\()')
+    yield rule('normal', name)
+    yield rule('error', f'0[0-9]+[{g.suffix}]?')
+    yield rule('number', f'[0-9]+[{g.suffix}]?')
+    yield '      <DetectChar attribute="string" context="string" char="&quot;"/>'
+    yield '      <Detect2Chars attribute="comment" context="line comment" char="/" char1="/"/>'
+    yield '      <Detect2Chars attribute="comment" context="comment" char="/" char1="*" beginRegion="comment"/>'
+    yield '      <DetectChar attribute="normal" context="#stay" char="{" beginRegion="block"/>'
+    yield '      <DetectChar attribute="normal" context="#stay" char="}" endRegion="block"/>'
+    yield rule('error', '[' + re.sub(r'[\\\]^-]', r'\\\g<0>', g.stray) + r']|[^\x00-\x7f]')
+    yield '    </context>'
+    yield '    <context name="string" attribute="string" lineEndContext="#pop">'
+    yield rule('escape', '\\\\[' + re.sub(r'[\\\]^-]', r'\\\g<0>', g.escapes) + ']')
+    yield rule('error', r'\\.')
+    yield '      <DetectChar attribute="string" context="#pop" char="&quot;"/>'
+    yield '    </context>'
+
+
+FILES = {
+    'vim/syntax/titan.vim': vim,
+    'emacs/titan-mode.el': emacs,
+    'vscode/syntaxes/titan.tmLanguage.json': textmate,
+    'kate/titan.xml': kate,
+}
 
 
 def written(path, part):

@@ -1,5 +1,5 @@
 // A client of titan_lsp for VS Code, without dependencies: it starts the server, sends it the open documents and their changes, and shows its
-// diagnostics, hovers and fixes. VS Code counts columns in code units of UTF-16, as the server does by default.
+// diagnostics, hovers, fixes, symbols and definitions. VS Code counts columns in code units of UTF-16, as the server does by default.
 'use strict';
 const vscode = require('vscode');
 const { spawn } = require('child_process');
@@ -81,6 +81,7 @@ const toPosition = (at) => new vscode.Position(at.line, at.character);
 const toRange = (range) => new vscode.Range(toPosition(range.start), toPosition(range.end));
 const fromPosition = (at) => ({ line: at.line, character: at.character });
 const fromRange = (range) => ({ start: fromPosition(range.start), end: fromPosition(range.end) });
+const toLocation = (found) => new vscode.Location(vscode.Uri.parse(found.uri), toRange(found.range));
 const identifier = (document) => ({ uri: document.uri.toString() });
 const isTitan = (document) => document.languageId === 'titan';
 
@@ -88,6 +89,8 @@ function toDiagnostic(found) {
   const diagnostic = new vscode.Diagnostic(toRange(found.range), found.message, vscode.DiagnosticSeverity.Error);
   diagnostic.code = found.code;
   diagnostic.source = found.source;
+  diagnostic.relatedInformation = (found.relatedInformation || [])
+    .map(({ location, message }) => new vscode.DiagnosticRelatedInformation(toLocation(location), message));
   return diagnostic;
 }
 
@@ -101,6 +104,11 @@ function toAction(found) {
     for (const edit of edits) action.edit.replace(vscode.Uri.parse(uri), toRange(edit.range), edit.newText);
   }
   return action;
+}
+
+// Kinds of symbols are numbered from 1 in the protocol, and from 0 in VS Code.
+function toSymbol(found) {
+  return new vscode.SymbolInformation(found.name, found.kind - 1, found.containerName || '', toLocation(found.location));
 }
 
 let connection;
@@ -140,6 +148,14 @@ function activate(context) {
     const found = await current.request('textDocument/codeAction', params);
     return (found || []).map(toAction);
   };
+  const symbols = async (document) => {
+    const found = await current.request('textDocument/documentSymbol', { textDocument: identifier(document) });
+    return (found || []).map(toSymbol);
+  };
+  const definition = async (document, at) => {
+    const found = await current.request('textDocument/definition', { textDocument: identifier(document), position: fromPosition(at) });
+    return found && [found].flat().map(toLocation);
+  };
 
   current.request('initialize', { processId: process.pid, rootUri: null, capabilities: { general: { positionEncodings: ['utf-16'] } } });
   current.notify('initialized', {});
@@ -150,6 +166,8 @@ function activate(context) {
     vscode.workspace.onDidChangeTextDocument(change),
     vscode.workspace.onDidCloseTextDocument(close),
     vscode.languages.registerHoverProvider(SELECTOR, { provideHover: hover }),
+    vscode.languages.registerDocumentSymbolProvider(SELECTOR, { provideDocumentSymbols: symbols }),
+    vscode.languages.registerDefinitionProvider(SELECTOR, { provideDefinition: definition }),
     vscode.languages.registerCodeActionsProvider(SELECTOR, { provideCodeActions: actions },
       { providedCodeActionKinds: [vscode.CodeActionKind.QuickFix, vscode.CodeActionKind.SourceFixAll] }));
 }

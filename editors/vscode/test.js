@@ -2,7 +2,8 @@
 //
 //     node test.js PROGRAM
 //
-// It opens a program with an error, types the missing keyword, and applies the fix; the status is 1 if something is otherwise than it must be.
+// It opens a program with an error, lists its symbols, types the missing keyword, and applies the fix; the status is 1 if something is
+// otherwise than it must be.
 'use strict';
 const Module = require('module');
 const assert = require('assert');
@@ -11,6 +12,9 @@ const program = process.argv[2];
 class Position { constructor(line, character) { this.line = line; this.character = character; } }
 class Range { constructor(start, end) { this.start = start; this.end = end; } }
 class Diagnostic { constructor(range, message, severity) { Object.assign(this, { range, message, severity }); } }
+class Location { constructor(uri, range) { Object.assign(this, { uri, range }); } }
+class DiagnosticRelatedInformation { constructor(location, message) { Object.assign(this, { location, message }); } }
+class SymbolInformation { constructor(name, kind, container, location) { Object.assign(this, { name, kind, container, location }); } }
 class Hover { constructor(contents, range) { Object.assign(this, { contents, range }); } }
 class MarkdownString { constructor(value) { this.value = value; } }
 class CodeAction { constructor(title, kind) { Object.assign(this, { title, kind }); } }
@@ -26,7 +30,8 @@ const document = {
   getText() { return this.text; },
 };
 const vscode = {
-  Position, Range, Diagnostic, Hover, MarkdownString, CodeAction, WorkspaceEdit, Uri, CodeActionKind: kinds, DiagnosticSeverity: { Error: 0 },
+  Position, Range, Location, Diagnostic, DiagnosticRelatedInformation, SymbolInformation, Hover, MarkdownString, CodeAction, WorkspaceEdit, Uri,
+  CodeActionKind: kinds, DiagnosticSeverity: { Error: 0 },
   workspace: {
     textDocuments: [document], getConfiguration: () => ({ get: () => program }),
     onDidOpenTextDocument: on('open'), onDidChangeTextDocument: on('change'), onDidCloseTextDocument: on('close'),
@@ -35,6 +40,8 @@ const vscode = {
   languages: {
     createDiagnosticCollection: () => ({ set: (uri, list) => shown.set(uri.toString(), list), clear: () => shown.clear(), dispose() {} }),
     registerHoverProvider: (selector, provider) => { providers.hover = provider; return { dispose() {} }; },
+    registerDocumentSymbolProvider: (selector, provider) => { providers.symbols = provider; return { dispose() {} }; },
+    registerDefinitionProvider: (selector, provider) => { providers.definition = provider; return { dispose() {} }; },
     registerCodeActionsProvider: (selector, provider) => { providers.actions = provider; return { dispose() {} }; },
   },
 };
@@ -68,6 +75,8 @@ async function main() {
   const hover = await providers.hover.provideHover(document, new Position(3, 5));
   assert.ok(hover.contents.value.startsWith('**S2** '));
   assert.strictEqual(await providers.hover.provideHover(document, new Position(0, 0)), null);
+  const symbols = await providers.symbols.provideDocumentSymbols(document);
+  assert.deepStrictEqual(symbols.map(({ name, kind, location }) => [name, kind, location.range.start.line]), [['Main', 4, 0], ['main', 5, 1]]);
   const at = document.text.split('\n')[2].indexOf('rounds');
   edit(2, at, at, 'single ');
   await diagnostics(0);
