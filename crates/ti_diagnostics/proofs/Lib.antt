@@ -1,3 +1,4 @@
+mod Places
 mod Positions
 mod SymbolLists
 mod TokenEnds

@@ -1,7 +1,7 @@
 // Offsets of source positions.
 ghost use Rattle.std.specs.Prelude.{◌≡◌, ◌≤◌, ◌<◌, ◌^◌, ◌+◌, true, false, length, IfSome, None};
 ghost use Rattle.ti_base.specs.Places.{place_of};
-ghost use Rattle.ti_diagnostics.specs.Rejections.{IsNoPosition};
+ghost use Rattle.ti_diagnostics.specs.Rejections.{IsPosition};
 
 use ti_base::Place;
 
@@ -22,7 +22,7 @@ pub fn offset_of(text: &[u8], place: Place) -> Option<usize>
     requires { length text.now + 2 < 2 ^ 32 }
     ensures within { IfSome result (λ k. k ≤ length text.now) }
     ensures found { IfSome result (λ k. place_of text.now k ≡ place) }
-    ensures none { result ≡ None → IsNoPosition text.now place }
+    ensures none { result ≡ None → IsPosition text.now place → ⊥ }
 {
     let mut at = Place::first();
     let mut k = 0;

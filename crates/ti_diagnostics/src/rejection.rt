@@ -2,7 +2,7 @@
 ghost use Rattle.std.specs.Prelude.{◌≡◌, ◌≤◌, IfOk, length};
 ghost use Rattle.ti_base.specs.Places.{place_of};
 ghost use Rattle.ti_rules.specs.RefusalOf.{IsRefusal};
-ghost use Rattle.ti_diagnostics.specs.Rejections.{IsDiagnosticOf, StartsAt};
+ghost use Rattle.ti_diagnostics.specs.Rejections.{IsDiagnosticOf};
 
 use crate::help::help_of;
 use crate::offset::offset_of;
@@ -15,19 +15,19 @@ use ti_rules::{Refusal, rule_text};
 // The limit on the size of a source, in bytes. A longer one is rejected at its first byte.
 const MOST_BYTES: usize = 1_048_576;
 
-// The offset of an error, or 0 if its position isn't one of the text.
-#[tactic(auto, using(crate::proofs::Positions::starts_there, crate::proofs::Positions::starts_nowhere, crate::proofs::Positions::starts_first))]
+// The offset of an error.
+#[tactic(auto, using(crate::proofs::Positions::first_place))]
 fn start_of(text: &[u8], refusal: Refusal) -> usize
     requires { IsRefusal text.now refusal }
     ensures within { result ≤ length text.now }
-    ensures place { StartsAt text.now refusal result }
+    ensures place { place_of text.now result ≡ refusal.place }
 {
     if text.len() > MOST_BYTES {
         return 0;
     }
     match offset_of(text, refusal.place) {
         Some(start) => start,
-        None => 0,
+        None => unreachable!(),
     }
 }
 
