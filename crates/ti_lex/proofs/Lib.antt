@@ -4,11 +4,14 @@ pub mod ElementLength
 pub mod Fronts
 pub mod Longest
 pub mod Numbers
+pub mod Offsets
 pub mod Only
+pub mod Order
 pub mod Runs
 pub mod Signs
 pub mod StringPieces
 pub mod Strings
 pub mod Tables
 pub mod Texts
+pub mod TokenEnds
 pub mod Words

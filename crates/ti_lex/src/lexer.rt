@@ -1,5 +1,6 @@
 // The lexer's main loop.
-ghost use Rattle.std.specs.Prelude.{◌≡◌, ◌⊎◌, ◌≤◌, ◌∷◌, ℕ, List, None, Ok, IfOk, IfSome, length, drop};
+ghost use Rattle.std.specs.Prelude.{◌≡◌, ◌⊎◌, ◌≤◌, ◌<◌, ◌∷◌, ℕ, true, List, None, Some, Ok, IfOk, IfSome, length, drop, slice_get};
+ghost use Rattle.ti_base.specs.Places.{place_of, place_before};
 ghost use Rattle.ti_syntax.specs.declared.token.Token.{Token};
 ghost use Rattle.ti_syntax.specs.Tokenizing.{BeginsNoPiece, IsTokenized};
 ghost use Rattle.ti_rules.specs.declared.refusal.Refusal.{Refusal};
@@ -19,7 +20,7 @@ use ti_rules::Rule;
 use ti_syntax::{Token, TokenKind};
 
 /// The limit on the size of a source, in bytes.
-const MOST_BYTES: usize = 1048576;
+pub const MOST_BYTES: usize = 1048576;
 
 impl Cursor<'_> {
     /// Reads the lexical element that begins with `byte`, the next byte.
@@ -108,4 +109,12 @@ pub fn one_reading()
     ensures one_refusal { (text : List ℕ) (a b : Refusal) → IsLexicalRefusal text a → IsLexicalRefusal text b → a ≡ b }
     ensures never_both { (text : List ℕ) (tokens : List Token) (refusal : Refusal) → length text ≤ most_bytes → IsTokenized text tokens
         → IsLexicalRefusal text refusal → ⊥ }
+{}
+
+/// Theorem: each token of a source is at a position of the source, and the positions strictly increase.
+pub fn tokens_in_order()
+    ensures placed { (text : List ℕ) (tokens : List Token) → IsTokenized text tokens → (i : ℕ) (t : Token)
+        → slice_get tokens i ≡ Some t → (k : ℕ) × (k ≤ length text) × (t.place ≡ place_of text k) }
+    ensures rises { (text : List ℕ) (tokens : List Token) → IsTokenized text tokens → (i j : ℕ) (t u : Token) → i < j
+        → slice_get tokens i ≡ Some t → slice_get tokens j ≡ Some u → place_before t.place u.place ≡ true }
 {}
