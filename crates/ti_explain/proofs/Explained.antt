@@ -24,11 +24,11 @@ use Rattle.ti_rules.proofs.Lemmas.{OneReading, never_both, not_among}
 use Rattle.ti_parse.specs.Answer.{Parsed}
 use Rattle.ti_parse_expr.specs.declared.error.ParseErr.TheVariants as parser
 use Rattle.ti_explain.specs.declared.reason.RefusalReason.{RefusalReason}
-use Rattle.ti_explain.specs.declared.reason.Explanation.{Explanation}
-use Rattle.ti_explain.specs.Expected.{AreUnexpectedReasons, tried, untried}
-use Rattle.ti_explain.specs.Explanations.{AreProgramReasons, AreTreeReasons, AreTokenReasons, AreReasons, Explains}
+use Rattle.ti_explain.specs.declared.reason.RefusalReasons.{RefusalReasons}
+use Rattle.ti_explain.specs.Expected.{AreUnexpectedReasons}
+use Rattle.ti_explain.specs.Explanations.{AreProgramReasons, AreTreeReasons, AreTokenReasons, AreReasons}
 use Rattle.ti_explain.specs.Explanations as explained
-use Rattle.ti_explain.specs.Mirrors.Phases.{ProgramExplained, TreeExplained, TokensExplained, IsParsed}
+use Rattle.ti_explain.specs.Mirrors.Phases.{ProgramExplained, TreeExplained, TokensExplained, TextExplained, IsParsed}
 
 -- ---- explained is refused
 
@@ -49,10 +49,8 @@ unfolding refusal_at
 misfit_refused bytes tokens r misfit has rule is = subst (IsRefusal bytes) (ap (λ x. refusal_at x r.place) (sym rule)) (text.of_tokens has is)
 
 unexpected_refused : (tokens : List Token) (at : Place) (l : List RefusalReason) → AreUnexpectedReasons tokens at l → IsGrammarRefusal tokens (Some (Unexpected, at))
-unexpected_refused tokens at l (tried front rest t is place shows expected) =
-    subst (λ p. IsGrammarRefusal tokens (Some (Unexpected, p))) place (refused front t rest is shows)
-unexpected_refused tokens at l (untried front rest t is place shows never) =
-    subst (λ p. IsGrammarRefusal tokens (Some (Unexpected, p))) place (refused front t rest is shows)
+unexpected_refused tokens at l is =
+    subst (λ p. IsGrammarRefusal tokens (Some (Unexpected, p))) is.place (refused is.front is.here is.rest is.is is.misfit)
 
 tokens_refused : (bytes : List ℕ) (tokens : List Token) (r : Refusal) (l : List RefusalReason) → HasTokens bytes tokens → AreTokenReasons tokens r l → IsRefusal bytes r
 tokens_refused bytes tokens r l has (explained.of_unexpected {reasons = reasons} rule is) =
@@ -61,7 +59,7 @@ tokens_refused bytes tokens r l has (explained.of_depth rule is) = misfit_refuse
 
 -- ---- a refusal without reasons
 
-pub alone : (P : Refusal → List RefusalReason → Type 0) (r : Refusal) (e : Explanation) → e.refusal ≡ r → e.reasons.items ≡ [] → P r [] → P e.refusal e.reasons.items
+pub alone : (P : Refusal → List RefusalReason → Type 0) (r : Refusal) (e : RefusalReasons) → e.refusal ≡ r → e.reasons.items ≡ [] → P r [] → P e.refusal e.reasons.items
 alone P r e refusal reasons is = subst (P e.refusal) (sym reasons) (subst (λ x. P x []) (sym refusal) is)
 
 -- ---- the phases
@@ -74,13 +72,13 @@ by_single p q r same none is = of_this (subst (λ x. IsProgramRefusal x r) same 
     of_this (refusals.of_types first) = absurd (not_among (type_refusals p) r none first.is_broken)
     of_this (refusals.of_single nothing first) = first
 
-pub program_then : (tree : TextTree) (p : ProgramView) (o : Result (Option Explanation) Memory) → HasNone (BreaksNames tree) → Numbers tree p → ProgramExplained p o
+pub program_then : (tree : TextTree) (p : ProgramView) (o : Result (Option RefusalReasons) Memory) → HasNone (BreaksNames tree) → Numbers tree p → ProgramExplained p o
     → TreeExplained tree o
 program_then tree p (Ok None) named numbers is = record { program = p; named = named; numbers = numbers; unbroken = is }
 program_then tree p (Ok (Some e)) named numbers is = explained.of_program named numbers is
 program_then tree p (Err memory) named numbers is = tt
 
-pub tree_then : (tokens : List Token) (tree : TextTree) (o : Result (Option Explanation) Memory) → IsParsed tokens tree → TreeExplained tree o → TokensExplained tokens o
+pub tree_then : (tokens : List Token) (tree : TextTree) (o : Result (Option RefusalReasons) Memory) → IsParsed tokens tree → TreeExplained tree o → TokensExplained tokens o
 tree_then tokens tree (Ok None) parsed is = (tree, parsed, is)
 tree_then tokens tree (Ok (Some e)) parsed is = inr (tree, parsed, is)
 tree_then tokens tree (Err memory) parsed is = tt
@@ -89,7 +87,7 @@ tree_then tokens tree (Err memory) parsed is = tt
 tree_of_text : (bytes : List ℕ) (tokens : List Token) (tree : TextTree) → HasTokens bytes tokens → IsParsed tokens tree → HasTree bytes tree
 tree_of_text bytes tokens tree has parsed = record { tokens = tokens; has_tokens = has; spells = parsed.spells; shallow = parsed.shallow }
 
-pub tokens_then : OneReading → (bytes : List ℕ) (tokens : List Token) (o : Result (Option Explanation) Memory) → HasTokens bytes tokens → TokensExplained tokens o → Explains bytes o
+pub tokens_then : OneReading → (bytes : List ℕ) (tokens : List Token) (o : Result (Option RefusalReasons) Memory) → HasTokens bytes tokens → TokensExplained tokens o → TextExplained bytes o
 tokens_then known bytes tokens (Ok None) has (tree, parsed, fine) =
     λ r is. never_both known bytes fine.program r
     (record { tree = tree; has_tree = tree_of_text bytes tokens tree has parsed; named = fine.named; numbers = fine.numbers; unbroken = fine.unbroken }) is
@@ -99,7 +97,7 @@ tokens_then known bytes tokens (Ok (Some e)) has (inr (tree, parsed, reasons)) =
     (text.of_tree whole (tree_refused tree e.refusal e.reasons.items reasons), explained.of_tree whole reasons)
 tokens_then known bytes tokens (Err memory) has is = tt
 
-pub bytes_then : (bytes : List ℕ) (r : Refusal) (e : Explanation) → e.refusal ≡ r → e.reasons.items ≡ [] → IsLexicalRefusal bytes r → Explains bytes (Ok (Some e))
+pub bytes_then : (bytes : List ℕ) (r : Refusal) (e : RefusalReasons) → e.refusal ≡ r → e.reasons.items ≡ [] → IsLexicalRefusal bytes r → TextExplained bytes (Ok (Some e))
 bytes_then bytes r e refusal reasons is =
     alone (λ x l. IsRefusal bytes x × AreReasons bytes x l) r e refusal reasons (text.of_bytes is, explained.of_bytes is)
 

@@ -1,6 +1,11 @@
 pub mod Explained
 pub mod FoundLaws
+pub mod MainLaws
 pub mod MethodLaws
+pub mod NameLaws
 pub mod NamedLaws
 pub mod PlainLaws
+pub mod ReasonLaws
+pub mod SpanLaws
+pub mod SpellingLaws
 pub mod TrialLaws

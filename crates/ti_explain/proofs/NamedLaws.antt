@@ -29,7 +29,8 @@ unless true at why = refl
 unless false at why = refl
 
 variable : (singles : ℕ → Bool) (at : Place) (number : ℕ) (d : Declaration) → is_none (plain_variable singles at number d) ≡ declared_single singles number d
-variable singles at number (Typed is_single type) = unless is_single at cause.Variable
+variable singles at number (Typed true type) = refl
+variable singles at number (Typed false type) = refl
 variable singles at number Foreach = unless (singles number) at cause.ForeachVariable
 
 both : (a b : Option PlainPart) (p q : Bool) → is_none a ≡ p → is_none b ≡ q → is_none (option_or a b) ≡ p && q

@@ -1,16 +1,16 @@
 -- Lemmas on putting a token in the place of another one: what the parser's answer says of the tokens before it.
-use Rattle.std.proofs.Common.{◌≡◌, inl, inr, ℕ, ◌<◌, ◌≤◌, ◌+◌, ◌==◌, Bool, true, false, not, ◌&&◌, if◌then◌else◌, List, [], ◌∷◌, ◌++◌, length, get_or, slice_get, take, map, Option, Some, None, Result, Ok, Err, IfOk, refl, ap, sym, ◌∙◌, subst, true≢false, arith}
+use Rattle.std.proofs.Common.{◌≡◌, ◌⊎◌, inl, inr, ℕ, ◌<◌, ◌≤◌, ◌+◌, ◌==◌, nat_lt, Bool, true, false, ◌&&◌, if◌then◌else◌, List, [], ◌∷◌, ◌++◌, length, get_or, slice_get, take, map, Option, Some, None, Result, Ok, Err, IfOk, refl, ap, sym, ◌∙◌, subst, true≢false, arith}
 use Rattle.std.specs.Bool.{Decides}
-use Rattle.std.proofs.lemmas.Bool.Decides.{Decides-and, Decides-eqb, Decides-like}
+use Rattle.std.proofs.lemmas.Bool.Decides.{Decides-or, Decides-and, Decides-eqb, Decides-ltb, Decides-like}
 use Rattle.std.proofs.lemmas.Bool.{cases_order}
-use Rattle.std.proofs.lemmas.List.{append_assoc, length-append, get_or_append_left, map-append, take_more}
+use Rattle.std.proofs.lemmas.List.{append_assoc, append-nil, length-append, get_or_append_left, map-append, take_more}
 use Rattle.std.specs.declared.vec.Vec.{Vec}
 use Rattle.std.specs.declared.alloc.Global.{Global}
 use Rattle.ti_base.specs.declared.memory.Memory.{Memory}
 use Rattle.std.proofs.Math.Seq.{get_or-append_seam, take-append_seam}
 use Rattle.std.proofs.lemmas.Option.{slice_get_read, slice_get_within, get_or_from_slice_get, same_Some}
 use Rattle.ti_base.specs.declared.place.Place.{Place}
-use Rattle.ti_base.specs.Places.{same_place}
+use Rattle.ti_base.specs.Places.{place_of, place_before, same_place}
 use Rattle.ti_syntax.specs.declared.token.Token.{Token}
 use Rattle.ti_syntax.specs.declared.token.TokenKind.{TokenKind}
 use Rattle.ti_syntax.specs.declared.token.TokenKind.TheVariants as k
@@ -23,8 +23,8 @@ use Rattle.ti_parse_expr.specs.Answers.{EndsAtEnd}
 use Rattle.ti_parse_expr.specs.declared.error.ParseErr.TheVariants as parser
 use Rattle.ti_parse.specs.Answer.{Parsed}
 use Rattle.ti_explain.specs.declared.reason.RefusalReason.{RefusalReason}
-use Rattle.ti_explain.specs.Expected.{zero_place, CanFollow, expected_reason, AreExpected, can_stand, cannot_stand, same_bool, fits_position, IsAlone, token_texts, AreUnexpectedReasons, tried, untried}
-use Rattle.ti_explain.specs.Mirrors.Trials.{IsOnly, IsKindOf, IsFront, IsTrial, moves_on, BeginsIf, Tries, IsFirstAt}
+use Rattle.ti_explain.specs.Expected.{CanFollow, expected_reason, AreExpected, can_stand, cannot_stand, end_reason, IsEndExpected, can_end, cannot_end, token_texts, AreUnexpectedReasons}
+use Rattle.ti_explain.specs.Mirrors.Trials.{zero_place, IsOnly, IsKindOf, IsFront, IsTrial, moves_on, BeginsIf, Tries, TriesEnd, AreTokens, AreInOrder, IsFirstAt}
 
 -- ---- lists
 
@@ -213,28 +213,34 @@ pub one_text_more : (front : List Token) (at : Place) (texts : List (List ℕ)) 
 one_text_more front at texts text before after so_far (inl (can, is)) = subst (AreExpected front at (texts ++ text ∷ [])) (sym is) (can_stand text so_far can)
 one_text_more front at texts text before after so_far (inr (never, is)) = subst (AreExpected front at (texts ++ text ∷ [])) (sym is) (cannot_stand text so_far never)
 
+-- ---- the end
+
+-- the end, for which the parser was asked
+end_then : (front : List Token) (at : Place) (tokens : List Token) (b : Bool) (before after : List RefusalReason) → IsFront front → (at ≡ zero_place → ⊥)
+    → tokens ≡ front ++ (record { kind = k.End; place = at } ∷ record { kind = k.End; place = zero_place } ∷ []) → BeginsIf tokens b
+    → after ≡ (if b then before ++ end_reason at ∷ [] else before) → TriesEnd front at before after
+end_then front at tokens true before after is_front placed same begins is = (
+  end_reason at ∷ [],
+  can_end
+      (begins front (record { kind = k.End; place = at })
+      (record { is_front = is_front; placed = placed; end = record { kind = k.End; place = zero_place }; at_end = refl; is = same })),
+  is,
+)
+end_then front at tokens false before after is_front placed same begins is = (
+  [],
+  cannot_end
+      (begins front (record { kind = k.End; place = at })
+      (record { is_front = is_front; placed = placed; end = record { kind = k.End; place = zero_place }; at_end = refl; is = same })),
+  is ∙ sym (append-nil before),
+)
+
+pub ended_then : (front : List Token) (at : Place) (tokens : List Token) (b : Bool) (before : List RefusalReason) (o : Result (Vec RefusalReason Global) Memory) → IsFront front
+    → (at ≡ zero_place → ⊥) → tokens ≡ front ++ (record { kind = k.End; place = at } ∷ record { kind = k.End; place = zero_place } ∷ []) → BeginsIf tokens b
+    → IfOk o (λ v. v.items ≡ (if b then before ++ end_reason at ∷ [] else before)) → IfOk o (λ v. TriesEnd front at before v.items)
+ended_then front at tokens b before (Ok v) is_front placed same begins is = end_then front at tokens b before v.items is_front placed same begins is
+ended_then front at tokens b before (Err e) is_front placed same begins is = is
+
 -- ---- the token that is refused
-
-is_index : (s b n : Bool) → same_bool s b && not n ≡ true → s ≡ true → b ≡ true
-is_index true true n e is = refl
-is_index true false n e is = e
-is_index false b n e is = absurd (true≢false (sym is))
-
-and_false : (x : Bool) → x && false ≡ true → ⊥
-and_false true e = true≢false (sym e)
-and_false false e = true≢false (sym e)
-
-is_somewhere : (s b n : Bool) → same_bool s b && not n ≡ true → n ≡ true → ⊥
-is_somewhere s b true e is = and_false (same_bool s b) e
-is_somewhere s b false e is = true≢false (sym is)
-
-fits_index : (at : Place) (index number : ℕ) (place : Place) → fits_position at index number place ≡ true → place ≡ at → number ≡ index
-fits_index at index number place fits here =
-    (Decides-eqb number index).0 (is_index (same_place place at) (number == index) (same_place place zero_place) fits ((place_same place at).1 here))
-
-fits_somewhere : (at : Place) (index number : ℕ) (place : Place) → fits_position at index number place ≡ true → place ≡ zero_place → ⊥
-fits_somewhere at index number place fits here =
-    is_somewhere (same_place place at) (number == index) (same_place place zero_place) fits ((place_same place zero_place).1 here)
 
 -- what is known of the token that is refused
 pub record Refused (tokens : List Token) (at : Place) : Type 0 where
@@ -257,35 +263,66 @@ there tokens at r = ap (λ l. slice_get l (length r.front)) r.is ∙ seam r.fron
 pub not_nothing : (tokens : List Token) (at : Place) → Refused tokens at → IsFirstAt tokens at None → ⊥
 not_nothing tokens at r never = never (length r.front) r.here (there tokens at r) r.at_place
 
--- another token is at the place
-pub untried_then : (tokens : List Token) (at : Place) (index : ℕ) → Refused tokens at → IsFirstAt tokens at (Some index) → (IsAlone tokens at index → ⊥) → AreUnexpectedReasons tokens at []
-untried_then tokens at index r (t, here, place) never =
-    untried r.front r.rest r.here r.is r.at_place r.shows
-    (λ alone. never (subst (IsAlone tokens at) (sym (fits_index at (length r.front) index t.place (alone index t here) place)) alone))
+-- ---- the positions of tokens
 
-pub alone_index : (tokens : List Token) (at : Place) (index : ℕ) (r : Refused tokens at) → IsAlone tokens at index → length r.front ≡ index
-alone_index tokens at index r alone = fits_index at index (length r.front) r.here.place (alone (length r.front) r.here (there tokens at r)) r.at_place
+before_itself : (p : Place) → place_before p p ≡ true → ⊥
+before_itself p is = never ((decides p).0 is)
+  where
+    decides : (p : Place) → Decides (place_before p p) ((p.line < p.line) ⊎ ((p.line ≡ p.line) × (p.col < p.col)))
+    decides p =
+        Decides-or (nat_lt p.line p.line) ((p.line == p.line) && nat_lt p.col p.col) (Decides-ltb p.line p.line)
+        (Decides-and (p.line == p.line) (nat_lt p.col p.col) (Decides-eqb p.line p.line) (Decides-ltb p.col p.col))
 
-pub alone_front : (tokens : List Token) (at : Place) (index : ℕ) (r : Refused tokens at) → IsAlone tokens at index → take index tokens ≡ r.front
-alone_front tokens at index r alone =
-    ap (λ n. take n tokens) (sym (alone_index tokens at index r alone)) ∙ ap (take (length r.front)) r.is ∙ take-append_seam r.front (r.here ∷ r.rest)
+    never : (p.line < p.line) ⊎ ((p.line ≡ p.line) × (p.col < p.col)) → ⊥
+    never (inl lt) = omega arith
+    never (inr (same, lt)) = omega arith
 
-pub alone_within : (tokens : List Token) (at : Place) (index : ℕ) (r : Refused tokens at) → IsAlone tokens at index → index ≤ length tokens
-alone_within tokens at index r alone =
-    omega (arith, slice_get_within tokens (length r.front) r.here (there tokens at r), alone_index tokens at index r alone)
+-- positions of a text aren't nowhere
+pub in_order : (text : List ℕ) (tokens : List Token) → ((i : ℕ) (t : Token) → slice_get tokens i ≡ Some t → (k : ℕ) × (k ≤ length text) × (t.place ≡ place_of text k))
+    → ((i j : ℕ) (t u : Token) → i < j → slice_get tokens i ≡ Some t → slice_get tokens j ≡ Some u → place_before t.place u.place ≡ true) → AreInOrder tokens
+in_order text tokens placed rise = record {
+  rise = rise;
+  somewhere = λ i t here is. nowhere t (placed i t here) is;
+}
+  where
+    nowhere : (t : Token) → (k : ℕ) × (k ≤ length text) × (t.place ≡ place_of text k) → t.place ≡ zero_place → ⊥
+    nowhere t (k, within, place) is = let line = ap (λ (p : Place). p.line) (sym is ∙ place) in omega (arith, line)
 
-pub alone_placed : (tokens : List Token) (at : Place) (index : ℕ) (r : Refused tokens at) → IsAlone tokens at index → at ≡ zero_place → ⊥
-alone_placed tokens at index r alone here =
-    fits_somewhere at index (length r.front) r.here.place (alone (length r.front) r.here (there tokens at r)) (r.at_place ∙ here)
+-- tokens at one position are one token
+one_there : (tokens : List Token) → AreInOrder tokens → (i j : ℕ) (t u : Token) → slice_get tokens i ≡ Some t → slice_get tokens j ≡ Some u → t.place ≡ u.place → i ≡ j
+one_there tokens order i j t u first second same =
+    elim (cases_order i j) [
+      | inl is ↦ is
+      | inr other ↦
+          elim other [
+            | inl less ↦ absurd (before_itself u.place (subst (λ p. place_before p u.place ≡ true) same (order.rise i j t u less first second)))
+            | inr more ↦ absurd (before_itself u.place (subst (λ p. place_before u.place p ≡ true) same (order.rise j i u t more second first)))
+          ]
+    ]
 
 is_shallow : (front : List Token) (t : Token) → ShowsMisfit Unexpected front t → IsShallow front
 is_shallow front t (unexpected some none shallow) = shallow
 
-pub alone_is_front : (tokens : List Token) (at : Place) (index : ℕ) (r : Refused tokens at) → IsAlone tokens at index → IsFront (take index tokens)
-alone_is_front tokens at index r alone = subst IsFront (sym (alone_front tokens at index r alone)) (record {
-  shallow = is_shallow r.front r.here r.shows;
-  somewhere = λ k t is. fits_somewhere at index k t.place (alone k t (ap (λ l. slice_get l k) r.is ∙ in_first r.front (r.here ∷ r.rest) k t is));
-})
+-- what is known of the tokens before the one that is refused
+pub record Before (tokens : List Token) (at : Place) (index : ℕ) (r : Refused tokens at) : Type 0 where
+  pub within : index ≤ length tokens
+  pub is_front : IsFront (take index tokens)
+  pub placed : at ≡ zero_place → ⊥
+  pub same : take index tokens ≡ r.front
+
+pub before : (tokens : List Token) (at : Place) (index : ℕ) (r : Refused tokens at) → AreInOrder tokens → IsFirstAt tokens at (Some index) → Before tokens at index r
+before tokens at index r order (t, here, place) =
+    let is : length r.front ≡ index = one_there tokens order (length r.front) index r.here t (there tokens at r) here (r.at_place ∙ sym place) in
+    let same : take index tokens ≡ r.front = ap (λ n. take n tokens) (sym is) ∙ ap (take (length r.front)) r.is ∙ take-append_seam r.front (r.here ∷ r.rest) in
+    record {
+      within = omega (arith, slice_get_within tokens (length r.front) r.here (there tokens at r), is);
+      is_front = subst IsFront (sym same) (record {
+        shallow = is_shallow r.front r.here r.shows;
+        somewhere = λ k t is. order.somewhere k t (ap (λ l. slice_get l k) r.is ∙ in_first r.front (r.here ∷ r.rest) k t is);
+      });
+      placed = λ nowhere. order.somewhere (length r.front) r.here (there tokens at r) (r.at_place ∙ nowhere);
+      same = same;
+    }
   where
     in_first : (xs ys : List Token) (k : ℕ) (t : Token) → slice_get xs k ≡ Some t → slice_get (xs ++ ys) k ≡ Some t
     in_first xs ys k t is =
@@ -293,40 +330,34 @@ alone_is_front tokens at index r alone = subst IsFront (sym (alone_front tokens 
         slice_get_read (xs ++ ys) (length (xs ++ ys)) k t refl (omega (arith, lt, length-append xs ys))
         (sym (get_or_append_left xs ys t k lt ∙ get_or_from_slice_get xs k t t is))
 
-pub tried_all : (tokens : List Token) (at : Place) (index : ℕ) (texts : List (List ℕ)) (reasons : List RefusalReason) (r : Refused tokens at) → IsAlone tokens at index → texts ≡ token_texts
-    → AreExpected (take index tokens) at texts reasons → AreUnexpectedReasons tokens at reasons
-tried_all tokens at index texts reasons r alone is expected =
-    tried r.front r.rest r.here r.is r.at_place r.shows
-    (subst (λ l. AreExpected l at token_texts reasons) (alone_front tokens at index r alone) (subst (λ l. AreExpected (take index tokens) at l reasons) is expected))
+-- the same, from what is known of the position and of the number
+pub known_before : (tokens : List Token) (at : Place) (index : ℕ) → AreTokens tokens
+    → ((text : List ℕ) (list : List Token) → IsTokenized text list → (i : ℕ) (t : Token) → slice_get list i ≡ Some t → (k : ℕ) × (k ≤ length text) × (t.place ≡ place_of text k))
+    → ((text : List ℕ) (list : List Token) → IsTokenized text list → (i j : ℕ) (t u : Token) → i < j → slice_get list i ≡ Some t → slice_get list j ≡ Some u
+    → place_before t.place u.place ≡ true)
+    → IsGrammarRefusal tokens (Some (Unexpected, at)) → IsFirstAt tokens at (Some index) → (r : Refused tokens at) × Before tokens at index r
+known_before tokens at index (text, has) placed rise refusal first =
+    let r = refused_there tokens at refusal in
+    (r, before tokens at index r (in_order text tokens (placed text tokens has.tokenized) (rise text tokens has.tokenized)) first)
 
--- one token more
-pub more_before : (tokens : List Token) (at : Place) (index i : ℕ) (t : Token) → i < length tokens → t ≡ get_or tokens i t
-    → ((k : ℕ) (u : Token) → k < i → slice_get tokens k ≡ Some u → fits_position at index k u.place ≡ true) → fits_position at index i t.place ≡ true
-    → (k : ℕ) (u : Token) → k < i + 1 → slice_get tokens k ≡ Some u → fits_position at index k u.place ≡ true
-more_before tokens at index i t within here before fits k u lt is =
-    elim (cases_order k i) [
-      | inl same ↦
-          let alike : t ≡ u = same_Some t u (sym (slice_get_read tokens (length tokens) i t refl within here) ∙ ap (slice_get tokens) (sym same) ∙ is) in
-          subst (λ n. fits_position at index n u.place ≡ true) (sym same) (subst (λ (z : Token). fits_position at index i z.place ≡ true) alike fits)
-      | inr order ↦ elim order [ inl less ↦ before k u less is | inr more ↦ absurd (too_far k i lt more) ]
-    ]
-  where
-    too_far : (k i : ℕ) → k < i + 1 → i < k → ⊥
-    too_far k i lt more = omega arith
-
-pub not_fitting : (tokens : List Token) (at : Place) (index i : ℕ) (t : Token) → i < length tokens → t ≡ get_or tokens i t → fits_position at index i t.place ≡ false → IsAlone tokens at index → ⊥
-not_fitting tokens at index i t within here fits alone =
-    true≢false (sym (alone i t (slice_get_read tokens (length tokens) i t refl within here)) ∙ fits)
-
-pub all_before : (tokens : List Token) (at : Place) (index i : ℕ) → length tokens ≤ i
-    → ((k : ℕ) (u : Token) → k < i → slice_get tokens k ≡ Some u → fits_position at index k u.place ≡ true) → IsAlone tokens at index
-all_before tokens at index i le before = λ k u is. before k u (omega (arith, slice_get_within tokens k u is)) is
-
--- all texts
-pub tried_then_all : (tokens : List Token) (at : Place) (index : ℕ) (texts : List (List ℕ)) (o : Result (Vec RefusalReason Global) Memory) (r : Refused tokens at) → IsAlone tokens at index
-    → texts ≡ token_texts → IfOk o (λ v. AreExpected (take index tokens) at texts v.items) → IfOk o (λ v. AreUnexpectedReasons tokens at v.items)
-tried_then_all tokens at index texts (Ok v) r alone is expected = tried_all tokens at index texts v.items r alone is expected
-tried_then_all tokens at index texts (Err e) r alone is expected = expected
+-- all texts and the end
+pub tried_then_all : (tokens : List Token) (at : Place) (index : ℕ) (texts : List (List ℕ)) (found : List RefusalReason) (o : Result (Vec RefusalReason Global) Memory)
+    (r : Refused tokens at) → Before tokens at index r → texts ≡ token_texts → AreExpected (take index tokens) at texts found
+    → IfOk o (λ v. TriesEnd (take index tokens) at found v.items) → IfOk o (λ v. AreUnexpectedReasons tokens at v.items)
+tried_then_all tokens at index texts found (Ok v) r b is expected (end, end_expected, all) = record {
+  front = r.front;
+  here = r.here;
+  rest = r.rest;
+  is = r.is;
+  place = r.at_place;
+  misfit = r.shows;
+  texts = found;
+  end = end;
+  expected = subst (λ l. AreExpected l at token_texts found) b.same (subst (λ l. AreExpected (take index tokens) at l found) is expected);
+  end_expected = subst (λ l. IsEndExpected l at end) b.same end_expected;
+  all = all;
+}
+tried_then_all tokens at index texts found (Err e) r b is expected ended = ended
 
 -- the texts up to one more
 pub texts_more : {X : Type 0} (f : X → List ℕ) (words : List X) (i : ℕ) (d : X) → i < length words → map f (take (i + 1) words) ≡ map f (take i words) ++ f (get_or words i d) ∷ []

@@ -1,15 +1,15 @@
 -- Which tokens could stand in the place of one that doesn't fit the grammar.
-use Rattle.std.specs.Prelude.{◌≡◌, ℕ, ◌==◌, Bool, true, false, not, ◌&&◌, List, [], ◌∷◌, ◌++◌, length, Some, codes, slice_get}
+use Rattle.std.specs.Prelude.{◌≡◌, ℕ, List, [], ◌∷◌, ◌++◌, codes}
 use Rattle.ti_base.specs.declared.place.Place.{Place}
-use Rattle.ti_base.specs.Places.{same_place}
 use Rattle.ti_syntax.specs.declared.token.Token.{Token}
+use Rattle.ti_syntax.specs.declared.token.TokenKind.TheVariants.{End}
 use Rattle.ti_syntax.specs.Spelling.{BeginsText, Unexpected, ShowsMisfit}
 use Rattle.ti_rules.specs.RefusalOf.{HasTokens}
 use Rattle.ti_explain.specs.declared.reason.RefusalReason.{RefusalReason}
-use Rattle.ti_explain.specs.declared.reason.ReasonKind.TheVariants.{Expected}
+use Rattle.ti_explain.specs.declared.reason.ReasonKind.TheVariants.{Expected, ExpectedEnd}
 
 -- The texts that are tried: each word, sign and operator of the language, each name that has a meaning of its own in the grammar, and one
--- text for each kind of token that has a value: a name, the dimensions, an int, a long and a string. The end of the source isn't tried.
+-- text for each kind of token that has a value: a name, the dimensions, an int, a long and a string.
 abbrev pub token_texts : List (List ℕ)
 token_texts =
     codes "boolean" ∷ codes "break" ∷ codes "broadcast" ∷ codes "class" ∷ codes "continue" ∷ codes "Domain" ∷
@@ -45,30 +45,30 @@ pub data AreExpected (front : List Token) (at : Place) : List (List ℕ) → Lis
   cannot_stand : {texts : List (List ℕ)} {reasons : List RefusalReason} (text : List ℕ) → AreExpected front at texts reasons
       → (CanFollow front at text → ⊥) → AreExpected front at (texts ++ text ∷ []) reasons
 
--- ---- the place of a token
+-- the tokens before it are a whole program, so that the source could end at this position
+abbrev pub CanEnd : List Token → Place → Type 0
+CanEnd front at = BeginsText (front ++ record { kind = End; place = at } ∷ [])
 
--- no token of a text is here
-abbrev pub zero_place : Place
-zero_place = record { line = 0; col = 0 }
+-- the reason that says that the source could end there
+abbrev pub end_reason : Place → RefusalReason
+end_reason at = record { place = at; kind = ExpectedEnd }
 
--- the two are equal
-abbrev pub same_bool : Bool → Bool → Bool
-same_bool true b = b
-same_bool false b = not b
+-- the reason for the end of the source, if it could be there
+pub data IsEndExpected (front : List Token) (at : Place) : List RefusalReason → Type 0 where
+  can_end : CanEnd front at → IsEndExpected front at (end_reason at ∷ [])
+  cannot_end : (CanEnd front at → ⊥) → IsEndExpected front at []
 
--- token number k, which is at this place, is token number `index` if and only if it is at the position, and it isn't nowhere
-abbrev pub fits_position : Place → ℕ → ℕ → Place → Bool
-fits_position at index k place = same_bool (same_place place at) (k == index) && not (same_place place zero_place)
-
--- Token number `index` is the only one at this position, and none is nowhere. It is so for the tokens of each text, since their positions
--- increase; that isn't proved.
-abbrev pub IsAlone : List Token → Place → ℕ → Type 0
-IsAlone tokens at index = (k : ℕ) (t : Token) → slice_get tokens k ≡ Some t → fits_position at index k t.place ≡ true
-
--- the reasons for refusing the first token that no program can have there: the texts that could stand in its place
-pub data AreUnexpectedReasons (tokens : List Token) (at : Place) : List RefusalReason → Type 0 where
-  tried : (front rest : List Token) (t : Token) {reasons : List RefusalReason} → tokens ≡ front ++ t ∷ rest → t.place ≡ at
-      → ShowsMisfit Unexpected front t → AreExpected front at token_texts reasons → AreUnexpectedReasons tokens at reasons
-  -- none is given if another token is at the same position
-  untried : (front rest : List Token) (t : Token) → tokens ≡ front ++ t ∷ rest → t.place ≡ at → ShowsMisfit Unexpected front t
-      → (IsAlone tokens at (length front) → ⊥) → AreUnexpectedReasons tokens at []
+-- The reasons for refusing the first token that no program can have there: the texts that could stand in its place, and the end of the source,
+-- if that could.
+pub record AreUnexpectedReasons (tokens : List Token) (at : Place) (reasons : List RefusalReason) : Type 0 where
+  pub front : List Token
+  pub here : Token
+  pub rest : List Token
+  pub is : tokens ≡ front ++ here ∷ rest
+  pub place : here.place ≡ at
+  pub misfit : ShowsMisfit Unexpected front here
+  pub texts : List RefusalReason
+  pub end : List RefusalReason
+  pub expected : AreExpected front at token_texts texts
+  pub end_expected : IsEndExpected front at end
+  pub all : reasons ≡ texts ++ end

@@ -1,6 +1,6 @@
 -- What an explanation of a text is: its refusal, with the reasons for it. Each phase that refuses says which reasons there are; so far,
 -- there are reasons for an unexpected token and for the rules of single values, and none for the others.
-use Rattle.std.specs.Prelude.{◌≡◌, ℕ, List, [], Contains, Option, Some, None, Result, Ok, Err}
+use Rattle.std.specs.Prelude.{◌≡◌, ℕ, List, [], map, Contains, Option, Some, None, Result, Ok, Err}
 use Rattle.ti_base.specs.declared.memory.Memory.{Memory}
 use Rattle.ti_syntax.specs.declared.token.Token.{Token}
 use Rattle.ti_syntax.specs.Trees.Classes.{TextTree}
@@ -18,6 +18,8 @@ use Rattle.ti_rules.specs.RefusalOf.{HasNone, HasTokens, HasTree, IsRefusal}
 use Rattle.ti_explain.specs.declared.reason.RefusalReason.{RefusalReason}
 use Rattle.ti_explain.specs.declared.reason.Explanation.{Explanation}
 use Rattle.ti_explain.specs.Expected.{AreUnexpectedReasons}
+use Rattle.ti_explain.specs.RefusedNames.{refused_name_reasons}
+use Rattle.ti_explain.specs.ReasonSpans.{without_len, HasLengths}
 use Rattle.ti_explain.specs.SingleReasons.{AreSingleReasons}
 
 -- the reasons for the first refusal of a program by the rules of types and qualifiers, or else by those of single values
@@ -28,7 +30,7 @@ pub data AreProgramReasons (p : ProgramView) (refusal : Refusal) : List RefusalR
 
 -- the reasons for the refusal of a tree by the rules of names, or else of its program
 pub data AreTreeReasons (tree : TextTree) (refusal : Refusal) : List RefusalReason → Type 0 where
-  of_names : IsFirstRefusal (BreaksNames tree) refusal → AreTreeReasons tree refusal []
+  of_names : IsFirstRefusal (BreaksNames tree) refusal → AreTreeReasons tree refusal (refused_name_reasons tree refusal)
   of_program : {program : ProgramView} {reasons : List RefusalReason} → HasNone (BreaksNames tree) → Numbers tree program
       → AreProgramReasons program refusal reasons → AreTreeReasons tree refusal reasons
 
@@ -46,8 +48,8 @@ pub data AreReasons (text : List ℕ) (refusal : Refusal) : List RefusalReason �
   of_tree : {tree : TextTree} {reasons : List RefusalReason} → HasTree text tree → AreTreeReasons tree refusal reasons
       → AreReasons text refusal reasons
 
--- None if the text has no refusal, else its refusal with the reasons for it; out of memory is always possible
+-- None if the text has no refusal, else its refusal with the reasons for it, and their lengths; out of memory is always possible
 abbrev pub Explains : List ℕ → Result (Option Explanation) Memory → Type 0
 Explains text (Ok None) = HasNone (IsRefusal text)
-Explains text (Ok (Some e)) = IsRefusal text e.refusal × AreReasons text e.refusal e.reasons.items
+Explains text (Ok (Some e)) = IsRefusal text e.refusal × AreReasons text e.refusal (map without_len e.reasons.items) × HasLengths text e
 Explains text (Err memory) = Unit {0}

@@ -1,6 +1,15 @@
+pub mod Declarations
+pub mod DeclaredNames
 pub mod Expected
 pub mod Explanations
 pub mod FirstEffects
+pub mod MainReasons
 pub mod Mirrors
+pub mod NameReasons
+pub mod NameUses
+pub mod NearSpelling
 pub mod PlainParts
+pub mod ReasonSpans
+pub mod Redeclared
+pub mod RefusedNames
 pub mod SingleReasons

@@ -18,7 +18,7 @@ use Rattle.ti_explain.specs.declared.reason.PlainPart.{PlainPart}
 
 -- a plain part at this position
 abbrev pub plain_at : Place → PlainCause → Option PlainPart
-plain_at at why = Some (record { place = at; cause = why })
+plain_at at why = Some (record { place = at; cause = why; variable = None })
 
 -- unless the test holds, there is a plain part at this position
 abbrev pub plain_unless : Bool → Place → PlainCause → Option PlainPart
@@ -26,7 +26,8 @@ plain_unless single at why = if single then None else plain_at at why
 
 -- a variable is plain unless it is declared single, or is the variable of a foreach over a single domain
 abbrev pub plain_variable : (ℕ → Bool) → Place → ℕ → Declaration → Option PlainPart
-plain_variable singles at number (Typed is_single type) = plain_unless is_single at cause.Variable
+plain_variable singles at number (Typed is_single type) =
+    if is_single then None else Some (record { place = at; cause = cause.Variable; variable = Some number })
 plain_variable singles at number Foreach = plain_unless (singles number) at cause.ForeachVariable
 
 -- ---- parts of expressions

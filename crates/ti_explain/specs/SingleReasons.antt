@@ -17,7 +17,8 @@ use Rattle.ti_rules.specs.SingleRules.{effect_refusals, result_refusals, standin
 use Rattle.ti_explain.specs.declared.reason.PlainPart.{PlainPart}
 use Rattle.ti_explain.specs.declared.reason.EffectAt.{EffectAt}
 use Rattle.ti_explain.specs.declared.reason.RefusalReason.{RefusalReason}
-use Rattle.ti_explain.specs.declared.reason.ReasonKind.TheVariants.{Plain, Effect, PlainMethod}
+use Rattle.ti_explain.specs.declared.reason.ReasonKind.TheVariants.{Plain, PlainDeclaration, Effect, PlainMethod}
+use Rattle.ti_explain.specs.Declarations.{declaration_of}
 use Rattle.ti_explain.specs.PlainParts.{plain_part, plain_whole, plain_initial}
 use Rattle.ti_explain.specs.FirstEffects.{first_effect, first_effect_of_all, loop_effect}
 
@@ -108,10 +109,23 @@ abbrev pub effect_reason : Option EffectAt → List RefusalReason
 effect_reason None = []
 effect_reason (Some found) = record { place = found.place; kind = Effect found.effect } ∷ []
 
+-- where the variable is declared that is the plain part, if it is one
+abbrev pub plain_declaration : NumberedMethod → Option PlainPart → Option Place
+plain_declaration m part = option_and_then (declaration_of m) (option_and_then (λ (found : PlainPart). found.variable) part)
+
+abbrev pub declaration_reason : Option Place → List RefusalReason
+declaration_reason None = []
+declaration_reason (Some at) = record { place = at; kind = PlainDeclaration } ∷ []
+
+-- the plain part, with the declaration of the variable that it may be
+abbrev pub plain_reasons : NumberedMethod → Option PlainPart → List RefusalReason
+plain_reasons m part = plain_reason part ++ declaration_reason (plain_declaration m part)
+
 -- the reasons why this statement is refused: the part that is plain, and the effect that wants it to be single
 abbrev pub statement_reasons : ProgramView → StmtInContext → Refusal → List RefusalReason
 statement_reasons p x refusal =
-    plain_reason (plain_for p x.around refusal.rule refusal.place x.statement) ++ effect_reason (effect_inside p x.around x.statement)
+    plain_reasons x.around.method (plain_for p x.around refusal.rule refusal.place x.statement)
+    ++ effect_reason (effect_inside p x.around x.statement)
 
 -- the refusals of the head of a method: global effects without `single`, and a single result without it
 abbrev pub single_head_refusals : ProgramView → NumberedMethod → List Refusal

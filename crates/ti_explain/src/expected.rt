@@ -3,13 +3,13 @@ ghost use Rattle.std.specs.Prelude.{◌≡◌, ◌≤◌, ◌++◌, ◌∷◌, [
 ghost use Rattle.ti_syntax.specs.declared.token.TokenKind.TheVariants.{End};
 ghost use Rattle.ti_parse_expr.specs.Answers.{EndsAtEnd};
 ghost use Rattle.ti_syntax.specs.Spelling.{Unexpected, IsGrammarRefusal};
-ghost use Rattle.ti_explain.specs.Expected.{zero_place, fits_position, expected_reason, AreExpected, AreUnexpectedReasons};
-ghost use Rattle.ti_explain.specs.Mirrors.Trials.{IsOnly, IsKindOf, IsFront, moves_on, BeginsIf, Tries, IsFirstAt, AloneIf};
+ghost use Rattle.ti_explain.specs.Expected.{expected_reason, end_reason, AreExpected, AreUnexpectedReasons};
+ghost use Rattle.ti_explain.specs.Mirrors.Trials.{zero_place, IsOnly, IsKindOf, IsFront, moves_on, BeginsIf, Tries, TriesEnd, AreTokens, IsFirstAt};
 
 use crate::reason::{ReasonKind, RefusalReason};
 use std::alloc::Global;
 use ti_base::{Memory, Place};
-use ti_lex::{LexErr, lex, one_reading};
+use ti_lex::{LexErr, lex, one_reading, tokens_in_order};
 use ti_parse::{ParseErr, parse};
 use ti_rules::{Refusal, Rule};
 use ti_syntax::{Spelled, Token, TokenKind};
@@ -243,18 +243,20 @@ fn add_if(
     Ok(found)
 }
 
-// The reasons for those of these texts whose token can follow the tokens before the index.
+// The trials of these texts: the reasons for those whose token can follow the tokens before the index.
 fn try_all(
     alloc: Global,
     tokens: Vec<Token>,
     index: usize,
     place: Place,
     texts: &[&'static str],
-) -> Result<Vec<RefusalReason>, Memory>
+) -> Result<Trials, Memory>
     requires within { index ≤ length tokens.items }
     requires front { IsFront (take index tokens.items) }
     requires place { place ≡ zero_place → ⊥ }
-    ensures { IfOk result (λ v. AreExpected (take index tokens.items) place (map (λ text. text.now) texts.now) v.items) }
+    ensures within { IfOk result (λ t. index ≤ length t.tokens.items) }
+    ensures front { IfOk result (λ t. take index t.tokens.items ≡ take index tokens.items) }
+    ensures tried { IfOk result (λ t. AreExpected (take index tokens.items) place (map (λ text. text.now) texts.now) t.reasons.items) }
 {
     let mut trials = Trials {
         tokens,
@@ -263,7 +265,45 @@ fn try_all(
     for text in texts {
         trials = try_text(alloc, trials, index, place, text)?;
     }
-    Ok(trials.reasons)
+    Ok(trials)
+}
+
+// ---- the end
+
+// Adds the reason for the end of the source if the test holds.
+fn add_end_if(
+    test: bool,
+    reasons: Vec<RefusalReason>,
+    place: Place,
+) -> Result<Vec<RefusalReason>, Memory>
+    ensures { IfOk result (λ v. v.items ≡ (if test then reasons.items ++ end_reason place ∷ [] else reasons.items)) }
+{
+    let mut found = reasons;
+    if test {
+        found.push(RefusalReason {
+            place,
+            kind: ReasonKind::ExpectedEnd,
+        })?;
+    }
+    Ok(found)
+}
+
+// The reasons, with that for the end of the source if it can follow the tokens before the index.
+fn try_end(
+    alloc: Global,
+    trials: Trials,
+    index: usize,
+    place: Place,
+) -> Result<Vec<RefusalReason>, Memory>
+    requires within { index ≤ length trials.tokens.items }
+    requires front { IsFront (take index trials.tokens.items) }
+    requires place { place ≡ zero_place → ⊥ }
+    ensures { IfOk result (λ v. TriesEnd (take index trials.tokens.items) place trials.reasons.items v.items) }
+{
+    let Trials { tokens, reasons } = trials;
+    let tokens = trial(tokens, index, TokenKind::End, place)?;
+    let begins = begins_text(alloc, &tokens)?;
+    add_end_if(begins, reasons, place)
 }
 
 // ---- the place of a token
@@ -280,43 +320,21 @@ fn first_at(tokens: &[Token], place: Place) -> Option<usize>
     None
 }
 
-// Whether token number `number`, which is at `own`, is token number `index` if and only if it is at the position, and isn't nowhere.
-fn fits_position(own: Place, place: Place, number: usize, index: usize) -> bool
-    ensures { result ≡ fits_position place index number own }
-{
-    let is_index = number == index;
-    let fits = if own == place { is_index } else { !is_index };
-    fits && own != zero_place()
-}
-
-// Whether token number `index` is the only one at this position, and none is nowhere.
-fn is_alone(tokens: &[Token], place: Place, index: usize) -> bool
-    ensures { AloneIf tokens.now place index result }
-{
-    for i in 0..tokens.len() {
-        if !fits_position(tokens[i].place, place, i, index) {
-            return false;
-        }
-    }
-    true
-}
-
-/// The texts of tokens that could stand in the place of the first one that no program can have there, each as a reason at that position;
-/// none if another token is at the same position, which no text has.
+/// The texts of tokens that could stand in the place of the first one that no program can have there, and the end of the source if that could,
+/// each as a reason at that position.
 pub fn expected(
     alloc: Global,
     tokens: Vec<Token>,
     place: Place,
 ) -> Result<Vec<RefusalReason>, Memory>
-    requires { IsGrammarRefusal tokens.items (Some (Unexpected, place)) }
+    requires tokens { AreTokens tokens.items }
+    requires misfit { IsGrammarRefusal tokens.items (Some (Unexpected, place)) }
     ensures { IfOk result (λ v. AreUnexpectedReasons tokens.items place v.items) }
 {
+    tokens_in_order();
     let Some(index) = first_at(&tokens, place) else {
-        return Ok(Vec::new(alloc));
+        unreachable!()
     };
-    if is_alone(&tokens, place, index) {
-        try_all(alloc, tokens, index, place, &TOKEN_TEXTS)
-    } else {
-        Ok(Vec::new(alloc))
-    }
+    let trials = try_all(alloc, tokens, index, place, &TOKEN_TEXTS)?;
+    try_end(alloc, trials, index, place)
 }

@@ -1,18 +1,30 @@
 //! Explanations: why a text is refused, as positions in it with what is there.
 #![tactic(auto)]
 
+mod declarations;
+mod declared_names;
 mod effects;
 mod expected;
 mod laws;
+mod main_reasons;
 mod methods;
+mod name_reason;
+mod name_reasons;
+mod name_uses;
+mod near_spelling;
 mod phases;
 mod plain;
 mod reason;
+mod redeclared;
+mod refused_names;
 mod search;
+mod spans;
 mod statement;
 
-pub use laws::{effects_are_named, plain_parts_are_named};
+pub use laws::{effects_are_named, main_is_explained, plain_parts_are_named};
+pub use name_reason::{MainDefect, NameReason, SoughtName};
 pub use phases::explain;
 pub use reason::{
-    EffectAt, Explanation, GlobalEffect, PlainCause, PlainPart, ReasonKind, RefusalReason,
+    EffectAt, Explanation, GlobalEffect, PlainCause, PlainPart, ReasonKind, ReasonSpan,
+    RefusalReason,
 };

@@ -5,11 +5,14 @@ ghost use Rattle.ti_lang.specs.Program.Views.{program_of};
 ghost use Rattle.ti_parse_expr.specs.Answers.{EndsAtEnd};
 ghost use Rattle.ti_rules.specs.TypeRules.{type_refusals};
 ghost use Rattle.ti_explain.specs.Explanations.{Explains};
-ghost use Rattle.ti_explain.specs.Mirrors.Phases.{ProgramExplained, TreeExplained, TokensExplained};
+ghost use Rattle.ti_explain.specs.Mirrors.Phases.{ProgramExplained, TreeExplained, TokensExplained, TextExplained};
+ghost use Rattle.ti_explain.specs.Mirrors.Trials.{AreTokens};
 
 use crate::expected::expected;
 use crate::methods::single_reasons;
-use crate::reason::Explanation;
+use crate::reason::{Explanation, RefusalReasons};
+use crate::refused_names::refused_name_reasons;
+use crate::spans::explanation_of;
 use std::alloc::Global;
 use ti_base::Memory;
 use ti_check::{CheckErr, check, check_types};
@@ -22,11 +25,11 @@ use ti_syntax::Token;
 use ti_syntax::tree::Tree;
 
 // A refusal without reasons.
-fn unexplained(alloc: Global, refusal: Refusal) -> Explanation
+fn unexplained(alloc: Global, refusal: Refusal) -> RefusalReasons
     ensures refusal { result.refusal ≡ refusal }
     ensures reasons { result.reasons.items ≡ [] }
 {
-    Explanation {
+    RefusalReasons {
         refusal,
         reasons: Vec::new(alloc),
     }
@@ -34,7 +37,7 @@ fn unexplained(alloc: Global, refusal: Refusal) -> Explanation
 
 // The first refusal of a program by the rules of single values, with its reasons. The program is checked as a copy, since a check that
 // refuses drops it.
-fn explain_single(alloc: Global, program: Program) -> Result<Option<Explanation>, Memory>
+fn explain_single(alloc: Global, program: Program) -> Result<Option<RefusalReasons>, Memory>
     requires { type_refusals (program_of program.parts) ≡ [] }
     ensures { ProgramExplained (program_of program.parts) result }
 {
@@ -42,14 +45,14 @@ fn explain_single(alloc: Global, program: Program) -> Result<Option<Explanation>
         Ok(_) => Ok(None),
         Err(CheckErr::Refused(refusal)) => {
             let reasons = single_reasons(alloc, &program, refusal)?;
-            Ok(Some(Explanation { refusal, reasons }))
+            Ok(Some(RefusalReasons { refusal, reasons }))
         }
         Err(CheckErr::Memory) => Err(Memory),
     }
 }
 
 // The explanation of a program.
-fn explain_program(alloc: Global, program: Program) -> Result<Option<Explanation>, Memory>
+fn explain_program(alloc: Global, program: Program) -> Result<Option<RefusalReasons>, Memory>
     ensures { ProgramExplained (program_of program.parts) result }
 {
     match check_types(alloc, &program) {
@@ -60,20 +63,24 @@ fn explain_program(alloc: Global, program: Program) -> Result<Option<Explanation
 }
 
 // The explanation of a tree.
-fn explain_tree(alloc: Global, tree: &Tree) -> Result<Option<Explanation>, Memory>
+fn explain_tree(alloc: Global, tree: &Tree) -> Result<Option<RefusalReasons>, Memory>
     ensures { TreeExplained (tree_of tree.now) result }
 {
     one_program();
     match resolve(alloc, tree) {
         Ok(program) => explain_program(alloc, program),
-        Err(NameErr::Refused(refusal)) => Ok(Some(unexplained(alloc, refusal))),
+        Err(NameErr::Refused(refusal)) => {
+            let reasons = refused_name_reasons(alloc, tree, refusal)?;
+            Ok(Some(RefusalReasons { refusal, reasons }))
+        }
         Err(NameErr::Memory) => Err(Memory),
     }
 }
 
 // The explanation of a list of tokens.
-fn explain_tokens(alloc: Global, tokens: Vec<Token>) -> Result<Option<Explanation>, Memory>
-    requires { EndsAtEnd tokens.items }
+fn explain_tokens(alloc: Global, tokens: Vec<Token>) -> Result<Option<RefusalReasons>, Memory>
+    requires tokens { AreTokens tokens.items }
+    requires ends { EndsAtEnd tokens.items }
     ensures { TokensExplained tokens.items result }
 {
     match parse(alloc, &tokens) {
@@ -81,7 +88,7 @@ fn explain_tokens(alloc: Global, tokens: Vec<Token>) -> Result<Option<Explanatio
         Err(ParseErr::Refused(refusal)) => match refusal.rule {
             Rule::G1 => {
                 let reasons = expected(alloc, tokens, refusal.place)?;
-                Ok(Some(Explanation { refusal, reasons }))
+                Ok(Some(RefusalReasons { refusal, reasons }))
             }
             _ => Ok(Some(unexplained(alloc, refusal))),
         },
@@ -89,9 +96,9 @@ fn explain_tokens(alloc: Global, tokens: Vec<Token>) -> Result<Option<Explanatio
     }
 }
 
-/// Explains why a text is refused: its refusal, with the reasons for it; None if the text has no refusal. The only error is Memory.
-pub fn explain(alloc: Global, text: &[u8]) -> Result<Option<Explanation>, Memory>
-    ensures { Explains text.now result }
+// The refusal of a text, with its reasons; None if the text has no refusal.
+fn reasons_of(alloc: Global, text: &[u8]) -> Result<Option<RefusalReasons>, Memory>
+    ensures { TextExplained text.now result }
 {
     one_reading();
     one_text();
@@ -101,5 +108,16 @@ pub fn explain(alloc: Global, text: &[u8]) -> Result<Option<Explanation>, Memory
         Ok(tokens) => explain_tokens(alloc, tokens),
         Err(LexErr::Refused(refusal)) => Ok(Some(unexplained(alloc, refusal))),
         Err(LexErr::Memory) => Err(Memory),
+    }
+}
+
+/// Explains why a text is refused: its refusal, with the reasons for it, each with the length of the token at its position; None if the
+/// text has no refusal. The only error is Memory.
+pub fn explain(alloc: Global, text: &[u8]) -> Result<Option<Explanation>, Memory>
+    ensures { Explains text.now result }
+{
+    match reasons_of(alloc, text)? {
+        Some(found) => Ok(Some(explanation_of(alloc, text, found)?)),
+        None => Ok(None),
     }
 }

@@ -22,7 +22,11 @@ use ti_single::{deref_expr, deref_exprs, deref_ranges, deref_type, has_single_re
 fn plain_at(place: Place, cause: PlainCause) -> Option<PlainPart>
     ensures { result ≡ plain_at place cause }
 {
-    Some(PlainPart { place, cause })
+    Some(PlainPart {
+        place,
+        cause,
+        variable: None,
+    })
 }
 
 fn plain_unless(single: bool, place: Place, cause: PlainCause) -> Option<PlainPart>
@@ -48,7 +52,17 @@ fn plain_variable(scope: &Scope, place: Place, variable: &Variable) -> Option<Pl
         (variable_of variable.now).declared }
 {
     match &variable.declared {
-        Declared::Typed { single, ty: _ } => plain_unless(*single, place, PlainCause::Variable),
+        Declared::Typed { single, ty: _ } => {
+            if *single {
+                None
+            } else {
+                Some(PlainPart {
+                    place,
+                    cause: PlainCause::Variable,
+                    variable: Some(variable.number),
+                })
+            }
+        }
         Declared::Foreach => plain_unless(
             is_single_number(scope, variable.number),
             place,

@@ -1,5 +1,6 @@
 // Explanations of a refusal, as data: where to look and what is there.
 
+use crate::name_reason::NameReason;
 use ti_base::Place;
 use ti_rules::Refusal;
 use ti_syntax::Spelled;
@@ -37,11 +38,13 @@ pub enum PlainCause {
     SentReference,
 }
 
-/// A part of an expression that is plain by itself, whatever its own parts are: its position, and why.
+/// A part of an expression that is plain by itself, whatever its own parts are: its position, and why; and the number of the variable, if it
+/// is one that is declared without `single`.
 #[derive(Clone, Copy, Debug, PartialEq, Eq)]
 pub struct PlainPart {
     pub place: Place,
     pub cause: PlainCause,
+    pub variable: Option<u32>,
 }
 
 /// What a statement does that all processes have to do together.
@@ -79,12 +82,18 @@ pub struct EffectAt {
 pub enum ReasonKind {
     /// A token of this text could stand here.
     Expected(Spelled),
+    /// The source could end here.
+    ExpectedEnd,
     /// This part of a value, a condition or a domain that has to be single is plain.
     Plain(PlainCause),
+    /// The variable that is this part is declared here, without `single`.
+    PlainDeclaration,
     /// This statement has a global effect.
     Effect(GlobalEffect),
     /// The method of this name isn't declared single.
     PlainMethod,
+    /// What there is for a refusal by a rule of names.
+    Name(NameReason),
 }
 
 /// A reason for a refusal: a position in the text, and what is there.
@@ -94,10 +103,28 @@ pub struct RefusalReason {
     pub kind: ReasonKind,
 }
 
-/// The refusal of a text, with its reasons in a fixed order: for an unexpected token that of the texts that are tried; for a rule of single
-/// values the plain part, if there is one, and then the effect.
+/// A refusal with its reasons in a fixed order: for an unexpected token that of the texts that are tried, and then the end of the
+/// source; for a rule of single values the plain part, if there is one, with the declaration of its variable, and then the
+/// effect.
+#[derive(Drop)]
+pub struct RefusalReasons {
+    pub refusal: Refusal,
+    pub reasons: Vec<RefusalReason>,
+}
+
+/// A reason for a refusal, with the length in bytes of the token at its position.
+#[derive(Drop)]
+pub struct ReasonSpan {
+    pub place: Place,
+    pub len: usize,
+    pub kind: ReasonKind,
+}
+
+/// Why a text is refused: its refusal, with the length in bytes of the token at its position, and the reasons, in the order of
+/// `RefusalReasons`.
 #[derive(Drop)]
 pub struct Explanation {
     pub refusal: Refusal,
-    pub reasons: Vec<RefusalReason>,
+    pub len: usize,
+    pub reasons: Vec<ReasonSpan>,
 }

@@ -4,17 +4,18 @@ ghost use Rattle.std.specs.Option.{option_map, option_map_or, option_or, unwrap_
 ghost use Rattle.ti_base.specs.Places.{same_place};
 ghost use Rattle.ti_syntax.specs.Trees.Views.{maybe_of};
 ghost use Rattle.ti_lang.specs.Program.Expressions.{NoExp, numbered_exps, place_of_numbered};
-ghost use Rattle.ti_lang.specs.Program.Views.{expression_of, initial_of, statement_of};
+ghost use Rattle.ti_lang.specs.Program.Views.{expression_of, initial_of, statement_of, numbered_method_of};
 ghost use Rattle.ti_single.specs.Contexts.{program_at, around_of};
 ghost use Rattle.ti_rules.specs.StmtInContext.{stands};
-ghost use Rattle.ti_explain.specs.SingleReasons.{root_of_whole, root_of_initial, single_operand, arguments_of_whole, arguments_of_initial, arguments_in, part_here, plain_value, plain_argument, plain_for, effect_inside, plain_reason, effect_reason, statement_reasons};
+ghost use Rattle.ti_explain.specs.SingleReasons.{root_of_whole, root_of_initial, single_operand, arguments_of_whole, arguments_of_initial, arguments_in, part_here, plain_value, plain_argument, plain_for, effect_inside, plain_reason, plain_declaration, declaration_reason, effect_reason, statement_reasons};
 
+use crate::declarations::declaration_of;
 use crate::effects::{first_effect, loop_effect};
 use crate::plain::{plain_initial, plain_part, plain_whole};
 use crate::reason::{EffectAt, PlainPart, ReasonKind, RefusalReason};
 use std::alloc::Global;
 use ti_base::{Memory, Place};
-use ti_lang::program::{Expr, Init, Stmt};
+use ti_lang::program::{Expr, Init, Method, Stmt};
 use ti_rules::{Refusal, Rule};
 use ti_single::{SingleContext, deref_expr, deref_exprs, deref_init};
 
@@ -256,6 +257,35 @@ pub fn push_plain(
     Ok(found)
 }
 
+fn plain_declaration(method: &Method, part: Option<PlainPart>) -> Option<Place>
+    ensures { result ≡ plain_declaration (numbered_method_of method.now) part }
+{
+    match part {
+        Some(part) => match part.variable {
+            Some(number) => declaration_of(method, number),
+            None => None,
+        },
+        None => None,
+    }
+}
+
+// Adds the reason that a plain variable is declared at this position, if there is one.
+fn push_declaration(
+    reasons: Vec<RefusalReason>,
+    declaration: Option<Place>,
+) -> Result<Vec<RefusalReason>, Memory>
+    ensures { IfOk result (λ v. v.items ≡ reasons.items ++ declaration_reason declaration) }
+{
+    let mut found = reasons;
+    if let Some(place) = declaration {
+        found.push(RefusalReason {
+            place,
+            kind: ReasonKind::PlainDeclaration,
+        })?;
+    }
+    Ok(found)
+}
+
 /// Adds the reason that there is this effect, if there is one.
 pub fn push_effect(
     reasons: Vec<RefusalReason>,
@@ -273,8 +303,8 @@ pub fn push_effect(
     Ok(found)
 }
 
-/// The reasons why a statement breaks a rule of single values: the part that is plain, and for an `if` or a loop the effect that wants it
-/// to be single.
+/// The reasons why a statement breaks a rule of single values: the part that is plain, with the declaration of the variable that it may be;
+/// and for an `if` or a loop the effect that wants it to be single.
 pub fn statement_reasons(
     alloc: Global,
     site: SingleContext<'_>,
@@ -284,6 +314,8 @@ pub fn statement_reasons(
     ensures { IfOk result (λ v. v.items ≡ statement_reasons (program_at site.entry)
         (stands (around_of site.entry) (statement_of stmt.now)) refusal) }
 {
-    let plain = push_plain(Vec::new(alloc), plain_for(site, refusal, stmt))?;
+    let part = plain_for(site, refusal, stmt);
+    let plain = push_plain(Vec::new(alloc), part)?;
+    let plain = push_declaration(plain, plain_declaration(site.method, part))?;
     push_effect(plain, effect_inside(site, stmt))
 }

@@ -1,5 +1,5 @@
 -- For proofs only: what the phases answer.
-use Rattle.std.specs.Prelude.{◌⊎◌, List, Option, Some, None, Result, Ok, Err}
+use Rattle.std.specs.Prelude.{◌⊎◌, ℕ, List, Option, Some, None, Result, Ok, Err}
 use Rattle.ti_base.specs.declared.memory.Memory.{Memory}
 use Rattle.ti_syntax.specs.declared.token.Token.{Token}
 use Rattle.ti_syntax.specs.Trees.Classes.{TextTree}
@@ -8,12 +8,12 @@ use Rattle.ti_lang.specs.Program.Classes.{ProgramView}
 use Rattle.ti_lang.specs.Numbering.{Numbers}
 use Rattle.ti_rules.specs.BrokenNames.{BreaksNames}
 use Rattle.ti_rules.specs.ProgramRefusals.{BreaksNothing}
-use Rattle.ti_rules.specs.RefusalOf.{HasNone}
-use Rattle.ti_explain.specs.declared.reason.Explanation.{Explanation}
-use Rattle.ti_explain.specs.Explanations.{AreProgramReasons, AreTreeReasons, AreTokenReasons}
+use Rattle.ti_rules.specs.RefusalOf.{HasNone, IsRefusal}
+use Rattle.ti_explain.specs.declared.reason.RefusalReasons.{RefusalReasons}
+use Rattle.ti_explain.specs.Explanations.{AreProgramReasons, AreTreeReasons, AreTokenReasons, AreReasons}
 
 -- of a program
-abbrev pub ProgramExplained : ProgramView → Result (Option Explanation) Memory → Type 0
+abbrev pub ProgramExplained : ProgramView → Result (Option RefusalReasons) Memory → Type 0
 ProgramExplained p (Ok None) = BreaksNothing p
 ProgramExplained p (Ok (Some e)) = AreProgramReasons p e.refusal e.reasons.items
 ProgramExplained p (Err memory) = Unit {0}
@@ -26,7 +26,7 @@ pub record IsFine (tree : TextTree) : Type 0 where
   pub unbroken : BreaksNothing program
 
 -- of a tree
-abbrev pub TreeExplained : TextTree → Result (Option Explanation) Memory → Type 0
+abbrev pub TreeExplained : TextTree → Result (Option RefusalReasons) Memory → Type 0
 TreeExplained tree (Ok None) = IsFine tree
 TreeExplained tree (Ok (Some e)) = AreTreeReasons tree e.refusal e.reasons.items
 TreeExplained tree (Err memory) = Unit {0}
@@ -37,9 +37,15 @@ pub record IsParsed (tokens : List Token) (tree : TextTree) : Type 0 where
   pub shallow : IsShallow tokens
 
 -- of tokens
-abbrev pub TokensExplained : List Token → Result (Option Explanation) Memory → Type 0
+abbrev pub TokensExplained : List Token → Result (Option RefusalReasons) Memory → Type 0
 TokensExplained tokens (Ok None) = (tree : TextTree) × IsParsed tokens tree × IsFine tree
 TokensExplained tokens (Ok (Some e)) =
     AreTokenReasons tokens e.refusal e.reasons.items
     ⊎ ((tree : TextTree) × IsParsed tokens tree × AreTreeReasons tree e.refusal e.reasons.items)
 TokensExplained tokens (Err memory) = Unit {0}
+
+-- of a text
+abbrev pub TextExplained : List ℕ → Result (Option RefusalReasons) Memory → Type 0
+TextExplained text (Ok None) = HasNone (IsRefusal text)
+TextExplained text (Ok (Some e)) = IsRefusal text e.refusal × AreReasons text e.refusal e.reasons.items
+TextExplained text (Err memory) = Unit {0}

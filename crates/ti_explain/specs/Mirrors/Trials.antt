@@ -1,14 +1,19 @@
 -- For proofs only: what putting a token in place of another one finds.
-use Rattle.std.specs.Prelude.{◌≡◌, ◌⊎◌, ℕ, Bool, true, false, List, [], ◌∷◌, ◌++◌, slice_get, Option, Some, None}
+use Rattle.std.specs.Prelude.{◌≡◌, ◌⊎◌, ℕ, ◌<◌, Bool, true, false, List, [], ◌∷◌, ◌++◌, slice_get, Option, Some, None}
 use Rattle.ti_base.specs.declared.place.Place.{Place}
-use Rattle.ti_base.specs.Places.{same_place}
+use Rattle.ti_base.specs.Places.{same_place, place_before}
 use Rattle.ti_rules.specs.declared.rule.Rule.{Rule}
 use Rattle.ti_rules.specs.declared.rule.Rule.TheVariants.{G1}
+use Rattle.ti_rules.specs.RefusalOf.{HasTokens}
 use Rattle.ti_syntax.specs.declared.token.Token.{Token}
 use Rattle.ti_syntax.specs.declared.token.TokenKind.{TokenKind}
 use Rattle.ti_syntax.specs.Spelling.{BeginsText, IsShallow}
 use Rattle.ti_explain.specs.declared.reason.RefusalReason.{RefusalReason}
-use Rattle.ti_explain.specs.Expected.{IsTokenOf, CanFollow, expected_reason, zero_place, IsAlone}
+use Rattle.ti_explain.specs.Expected.{IsTokenOf, CanFollow, expected_reason, IsEndExpected}
+
+-- no token of a text is here
+abbrev pub zero_place : Place
+zero_place = record { line = 0; col = 0 }
 
 -- the kind of the first of two tokens
 abbrev pub IsOnly : List Token → Option TokenKind → Type 0
@@ -48,14 +53,23 @@ abbrev pub Tries : List Token → Place → List ℕ → List RefusalReason → 
 Tries front at text before after =
     (CanFollow front at text × (after ≡ before ++ expected_reason at text ∷ [])) ⊎ ((CanFollow front at text → ⊥) × (after ≡ before))
 
+-- after the end, there is its reason if the source could end, else there isn't
+abbrev pub TriesEnd : List Token → Place → List RefusalReason → List RefusalReason → Type 0
+TriesEnd front at before after = (end : List RefusalReason) × IsEndExpected front at end × (after ≡ before ++ end)
+
 -- ---- the place of a token
+
+-- these are the tokens of some text
+abbrev pub AreTokens : List Token → Type 0
+AreTokens tokens = (text : List ℕ) × HasTokens text tokens
+
+-- the positions of the tokens strictly increase, and no token is nowhere
+pub record AreInOrder (tokens : List Token) : Type 0 where
+  pub rise : (i j : ℕ) (t u : Token) → i < j → slice_get tokens i ≡ Some t → slice_get tokens j ≡ Some u
+      → place_before t.place u.place ≡ true
+  pub somewhere : (i : ℕ) (t : Token) → slice_get tokens i ≡ Some t → t.place ≡ zero_place → ⊥
 
 -- the token of this number is at the position; without a number, none is
 abbrev pub IsFirstAt : List Token → Place → Option ℕ → Type 0
 IsFirstAt tokens at None = (k : ℕ) (t : Token) → slice_get tokens k ≡ Some t → t.place ≡ at → ⊥
 IsFirstAt tokens at (Some index) = (t : Token) × (slice_get tokens index ≡ Some t) × (t.place ≡ at)
-
--- the token of this number is alone at the position if and only if the test holds
-abbrev pub AloneIf : List Token → Place → ℕ → Bool → Type 0
-AloneIf tokens at index true = IsAlone tokens at index
-AloneIf tokens at index false = IsAlone tokens at index → ⊥

@@ -1,45 +1,54 @@
-use Rattle.std.proofs.Common.{List, Some, None, true, false, refl, sym, subst}
+use Rattle.std.proofs.Common.{List, Some, None, IfOk, take, refl, sym, ◌∙◌, subst}
 use Rattle.ti_syntax.specs.declared.token.Token.{Token}
-use Rattle.ti_explain.specs.Expected.{AreUnexpectedReasons}
-use Rattle.ti_explain.specs.Mirrors.Trials.{IsFirstAt, AloneIf}
-use Rattle.ti_explain.proofs.TrialLaws.{refused_there, not_nothing, untried_then, alone_within, alone_placed, alone_is_front, tried_then_all}
+use Rattle.ti_explain.specs.Mirrors.Trials.{IsFirstAt, IsFront, TriesEnd}
+use Rattle.ti_explain.proofs.TrialLaws.{refused_there, not_nothing, known_before, tried_then_all}
 use Rattle.ti_explain.proofs.expected.expected.Goals as goal
 
-pub returns-in_default : goal.returns-in_default
-returns-in_default c =
-    absurd (not_nothing c.args.tokens.items c.args.place (refused_there c.args.tokens.items c.args.place c.requires)
+pub unreachable-requires : goal.unreachable-requires
+unreachable-requires c =
+    not_nothing c.args.tokens.items c.args.place (refused_there c.args.tokens.items c.args.place c.requires.misfit)
     (subst (λ (tokens : List Token). IsFirstAt tokens c.args.place None) c.deref.ensures.value
-    (subst (IsFirstAt c.deref.result.now c.args.place) c.in_default.is c.first_at.ensures)))
-
-pub returns-else-is_alone : goal.returns-else-is_alone
-returns-else-is_alone c =
-    subst (AreUnexpectedReasons c.args.tokens.items c.args.place) (sym c.new-else-is_alone.ensures.items)
-    (untried_then c.args.tokens.items c.args.place c.in-Some.index (refused_there c.args.tokens.items c.args.place c.requires)
-    (subst (λ (tokens : List Token). IsFirstAt tokens c.args.place (Some c.in-Some.index)) c.deref.ensures.value
-    (subst (IsFirstAt c.deref.result.now c.args.place) c.in-Some.is c.first_at.ensures))
-    (subst (λ (tokens : List Token). AloneIf tokens c.args.place c.in-Some.index false) c.deref-2.ensures.value
-    (subst (AloneIf c.deref-2.result.now c.args.place c.in-Some.index) c.if-is_alone.false c.is_alone.ensures)))
+    (subst (IsFirstAt c.deref.result.now c.args.place) c.in_default.is c.first_at.ensures))
 
 pub try_all-requires-clause-within : goal.try_all-requires-clause-within
 try_all-requires-clause-within c =
-    alone_within c.args.tokens.items c.args.place c.in-Some.index (refused_there c.args.tokens.items c.args.place c.requires)
-    (subst (λ (tokens : List Token). AloneIf tokens c.args.place c.in-Some.index true) c.deref-2.ensures.value
-    (subst (AloneIf c.deref-2.result.now c.args.place c.in-Some.index) c.if-is_alone.true c.is_alone.ensures))
+    let known = known_before c.args.tokens.items c.args.place c.in-Some.index c.requires.tokens c.tokens_in_order.ensures.placed c.tokens_in_order.ensures.rises c.requires.misfit
+    (subst (λ (tokens : List Token). IsFirstAt tokens c.args.place (Some c.in-Some.index)) c.deref.ensures.value
+    (subst (IsFirstAt c.deref.result.now c.args.place) c.in-Some.is c.first_at.ensures)) in
+    known.1.within
 
 pub try_all-requires-clause-front : goal.try_all-requires-clause-front
 try_all-requires-clause-front c =
-    alone_is_front c.args.tokens.items c.args.place c.in-Some.index (refused_there c.args.tokens.items c.args.place c.requires)
-    (subst (λ (tokens : List Token). AloneIf tokens c.args.place c.in-Some.index true) c.deref-2.ensures.value
-    (subst (AloneIf c.deref-2.result.now c.args.place c.in-Some.index) c.if-is_alone.true c.is_alone.ensures))
+    let known = known_before c.args.tokens.items c.args.place c.in-Some.index c.requires.tokens c.tokens_in_order.ensures.placed c.tokens_in_order.ensures.rises c.requires.misfit
+    (subst (λ (tokens : List Token). IsFirstAt tokens c.args.place (Some c.in-Some.index)) c.deref.ensures.value
+    (subst (IsFirstAt c.deref.result.now c.args.place) c.in-Some.is c.first_at.ensures)) in
+    known.1.is_front
 
 pub try_all-requires-clause-place : goal.try_all-requires-clause-place
 try_all-requires-clause-place c =
-    alone_placed c.args.tokens.items c.args.place c.in-Some.index (refused_there c.args.tokens.items c.args.place c.requires)
-    (subst (λ (tokens : List Token). AloneIf tokens c.args.place c.in-Some.index true) c.deref-2.ensures.value
-    (subst (AloneIf c.deref-2.result.now c.args.place c.in-Some.index) c.if-is_alone.true c.is_alone.ensures))
+    let known = known_before c.args.tokens.items c.args.place c.in-Some.index c.requires.tokens c.tokens_in_order.ensures.placed c.tokens_in_order.ensures.rises c.requires.misfit
+    (subst (λ (tokens : List Token). IsFirstAt tokens c.args.place (Some c.in-Some.index)) c.deref.ensures.value
+    (subst (IsFirstAt c.deref.result.now c.args.place) c.in-Some.is c.first_at.ensures)) in
+    known.1.placed
 
-pub returns-then-is_alone : goal.returns-then-is_alone
-returns-then-is_alone c =
-    tried_then_all c.args.tokens.items c.args.place c.in-Some.index _ c.try_all.result (refused_there c.args.tokens.items c.args.place c.requires)
-    (subst (λ (tokens : List Token). AloneIf tokens c.args.place c.in-Some.index true) c.deref-2.ensures.value
-    (subst (AloneIf c.deref-2.result.now c.args.place c.in-Some.index) c.if-is_alone.true c.is_alone.ensures)) refl c.try_all.ensures
+pub try_end-requires-clause-front : goal.try_end-requires-clause-front
+try_end-requires-clause-front c =
+    let known = known_before c.args.tokens.items c.args.place c.in-Some.index c.requires.tokens c.tokens_in_order.ensures.placed c.tokens_in_order.ensures.rises c.requires.misfit
+    (subst (λ (tokens : List Token). IsFirstAt tokens c.args.place (Some c.in-Some.index)) c.deref.ensures.value
+    (subst (IsFirstAt c.deref.result.now c.args.place) c.in-Some.is c.first_at.ensures)) in
+    subst IsFront (sym c.in_ok-trials.ensures.front) known.1.is_front
+
+pub try_end-requires-clause-place : goal.try_end-requires-clause-place
+try_end-requires-clause-place c =
+    let known = known_before c.args.tokens.items c.args.place c.in-Some.index c.requires.tokens c.tokens_in_order.ensures.placed c.tokens_in_order.ensures.rises c.requires.misfit
+    (subst (λ (tokens : List Token). IsFirstAt tokens c.args.place (Some c.in-Some.index)) c.deref.ensures.value
+    (subst (IsFirstAt c.deref.result.now c.args.place) c.in-Some.is c.first_at.ensures)) in
+    known.1.placed
+
+pub returns : goal.returns
+returns c =
+    let known = known_before c.args.tokens.items c.args.place c.in-Some.index c.requires.tokens c.tokens_in_order.ensures.placed c.tokens_in_order.ensures.rises c.requires.misfit
+    (subst (λ (tokens : List Token). IsFirstAt tokens c.args.place (Some c.in-Some.index)) c.deref.ensures.value
+    (subst (IsFirstAt c.deref.result.now c.args.place) c.in-Some.is c.first_at.ensures)) in
+    tried_then_all c.args.tokens.items c.args.place c.in-Some.index _ c.in_ok-trials.trials.reasons.items c.try_end.result known.0 known.1 refl c.in_ok-trials.ensures.tried
+    (subst (λ front. IfOk c.try_end.result (λ v. TriesEnd front c.args.place c.in_ok-trials.trials.reasons.items v.items)) c.in_ok-trials.ensures.front c.try_end.ensures)
