@@ -62,11 +62,11 @@ name_more names i d k n old new lt here is more =
 
 -- ---- marks and names
 
-same_places : (p q : Place) → same_place p q ≡ true → p ≡ q
+pub same_places : (p q : Place) → same_place p q ≡ true → p ≡ q
 same_places p q h = let e = both_true (p.line == q.line) (p.col == q.col) h in let l : p.line ≡ q.line = eqb-true p.line q.line e.0 in
     let k : p.col ≡ q.col = eqb-true p.col q.col e.1 in λ j. record { line = l j; col = k j }
 
-place_itself : (p : Place) → same_place p p ≡ true
+pub place_itself : (p : Place) → same_place p p ≡ true
 place_itself p = ap₂ (λ a b. a && b) (eq-eqb p.line p.line refl) (eq-eqb p.col p.col refl)
 
 kind_itself : (k : MarkKind) → same_mark_kind k k ≡ true

@@ -1,6 +1,6 @@
 // Annotations, and their order.
 ghost use Rattle.std.specs.Prelude.{◌≡◌, Some};
-ghost use Rattle.ti_blame.specs.Keys.{rank, kind_of, mark_at, key_of, mark_of};
+ghost use Rattle.ti_blame.specs.Keys.{rank, kind_of, mark_at, key_of, mark_of, reason_of};
 
 use crate::reason::Reason;
 use ti_base::Place;
@@ -89,4 +89,15 @@ pub fn mark_of(reason: Reason) -> Option<Mark>
         Reason::OfCollective(_) | Reason::Always => return None,
     };
     Some(Mark { place, kind })
+}
+
+/// An annotation as a reason.
+pub fn reason_of(mark: Mark) -> Reason
+    ensures { result ≡ reason_of mark }
+{
+    match mark.kind {
+        MarkKind::Method => Reason::OfMethod(mark.place),
+        MarkKind::Result => Reason::OfResult(mark.place),
+        MarkKind::Variable => Reason::OfVariable(mark.place),
+    }
 }

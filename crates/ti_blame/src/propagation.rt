@@ -123,8 +123,8 @@ fn rule_out_range(
     Ok(())
 }
 
-// The reasons from one index of the list to another (exclusive), as far as the list has them.
-fn part(items: &[Reason], from: usize, to: usize) -> &[Reason]
+/// The reasons from one index of the list to another (exclusive), as far as the list has them.
+pub fn part(items: &[Reason], from: usize, to: usize) -> &[Reason]
     ensures { result.now ≡ meaning items.now (Conclusion.Between from to) }
 {
     let end = to.min(items.len());

@@ -26,8 +26,8 @@ pub struct Solution {
     pub blamed: Option<Place>,
 }
 
-// The set of the keys of these annotations.
-fn key_set(alloc: Global, names: &[Mark]) -> Result<BTreeSet<MarkKey>, Memory>
+/// The set of the keys of these annotations.
+pub fn key_set(alloc: Global, names: &[Mark]) -> Result<BTreeSet<MarkKey>, Memory>
     ensures { IfOk result (λ s. (n : TheMarkKey) → contains key_cmp s n ≡ has_key names.now n) }
 {
     let mut found = BTreeSet::new(alloc);

@@ -12,3 +12,5 @@ pub mod Collectives
 pub mod Inferred
 pub mod Candidates
 pub mod Answer
+pub mod Unaligned
+pub mod OfTexts

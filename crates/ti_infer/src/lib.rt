@@ -12,7 +12,7 @@ mod strip;
 mod uses;
 
 pub use annotate::program::marked;
-pub use inference::{InferErr, Marking, infer};
+pub use inference::{InferErr, Marking, Unaligned, infer, unaligned_chain};
 pub use laws::{
     edges_are_rules, fewer_collectives, greatest_is_found, marked_is_numbered, marks_and_types,
     nothing_blamed_in_any_case, one_inference, reasons_are_rules, settled_is_inferred,
