@@ -2,7 +2,7 @@
 
 use crate::memory::NoMemory;
 use std::alloc::{AllocError, Global};
-use ti_explain::{ReasonKind, RefusalReason};
+use ti_explain::{ReasonKind, ReasonSpan};
 
 // The largest number of texts that are listed.
 const MOST_TEXTS: usize = 8;
@@ -59,7 +59,7 @@ impl Group {
                 "{ ; if while for foreach break continue return println System Ti this name ( \
                  boolean int long Point RectDomain Domain SharedRegion String"
             }
-            Group::Expression => "0 0L true false null this name ( [ - ~ ! Ti",
+            Group::Expression => "0 0L true false null this name ( [ + - ~ ! Ti",
             Group::Type => "boolean int long Point RectDomain Domain SharedRegion name",
             Group::Operator => "+ - * / % << >> >>> < <= > >= == != & | ^ && ||",
             Group::Assignment => "= += -= *= /= %= &= |= ^= <<= >>= >>>= ++ --",
@@ -67,7 +67,7 @@ impl Group {
         }
     }
 
-    fn applies(self, reasons: &[RefusalReason]) -> bool {
+    fn applies(self, reasons: &[ReasonSpan]) -> bool {
         for key in self.keys().split(' ') {
             if !is_expected(reasons, key) {
                 return false;
@@ -86,14 +86,15 @@ impl Group {
     }
 }
 
-fn text_of(reason: &RefusalReason) -> &[u8] {
+fn text_of(reason: &ReasonSpan) -> &[u8] {
     match &reason.kind {
         ReasonKind::Expected(text) => text.as_bytes(),
         _ => b"",
     }
 }
 
-fn is_expected(reasons: &[RefusalReason], text: &str) -> bool {
+/// Whether a token of this text could stand at the position of the error.
+pub fn is_expected(reasons: &[ReasonSpan], text: &str) -> bool {
     for reason in reasons {
         if text_of(reason) == text.as_bytes() {
             return true;
@@ -103,7 +104,7 @@ fn is_expected(reasons: &[RefusalReason], text: &str) -> bool {
 }
 
 // Whether a group that is said has this text.
-fn is_covered(reasons: &[RefusalReason], text: &[u8]) -> bool {
+fn is_covered(reasons: &[ReasonSpan], text: &[u8]) -> bool {
     for group in &GROUPS {
         if group.has(text) && group.applies(reasons) {
             return true;
@@ -131,8 +132,8 @@ fn push_text(out: &mut String, text: &[u8]) -> Result<(), AllocError> {
     }
 }
 
-// The names of the groups that are said, then the texts that no group has.
-fn items_of(alloc: Global, reasons: &[RefusalReason]) -> Result<Vec<String>, NoMemory> {
+// The names of the groups that are said, then the texts that no group has, then the end of the source.
+fn items_of(alloc: Global, reasons: &[ReasonSpan]) -> Result<Vec<String>, NoMemory> {
     let mut items = Vec::new(alloc);
     for group in &GROUPS {
         if !group.name().is_empty() && group.applies(reasons) {
@@ -148,16 +149,16 @@ fn items_of(alloc: Global, reasons: &[RefusalReason]) -> Result<Vec<String>, NoM
             push_text(&mut item, text)?;
             items.push(item)?;
         }
+        if let ReasonKind::ExpectedEnd = &reason.kind {
+            items.push(String::from_str(alloc, "the end of the source")?)?;
+        }
     }
     Ok(items)
 }
 
-/// What is expected in place of the token, as `expected A, B or C, found D`; empty if the reasons don't say.
-pub fn expectation(
-    alloc: Global,
-    reasons: &[RefusalReason],
-    token: &str,
-) -> Result<String, NoMemory> {
+/// What is expected in place of the token, as `expected A, B or C, found D`; empty if the reasons don't say. The end of the source is an empty
+/// token.
+pub fn expectation(alloc: Global, reasons: &[ReasonSpan], token: &str) -> Result<String, NoMemory> {
     let items = items_of(alloc, reasons)?;
     let mut out = String::new(alloc);
     let shown = items.len().min(MOST_TEXTS);
@@ -181,7 +182,7 @@ pub fn expectation(
         out.push_str(" and others")?;
     }
     if token.is_empty() {
-        out.push_str(", found the end of the line")?;
+        out.push_str(", found the end of the source")?;
     } else {
         out.push_str(", found `")?;
         out.push_str(token)?;

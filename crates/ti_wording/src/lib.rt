@@ -1,15 +1,18 @@
-//! The words of explanations: labels for positions, the tokens that were expected, and help. Both the command that writes excerpts and the
-//! language server take them from here.
+//! The words of explanations: labels for positions, the tokens that were expected, and help. The command that writes excerpts takes them from
+//! here.
 #![tactic(auto)]
 
 mod expectation;
+mod grammar_help;
 mod help;
 mod labels;
 mod memory;
+mod name_labels;
+mod token_words;
 mod tokens;
 
-pub use expectation::expectation;
-pub use help::help;
-pub use labels::{primary_label, reason_label};
+pub use help::{help_of, rule_help};
+pub use labels::{error_label, primary_label, reason_label};
 pub use memory::NoMemory;
-pub use tokens::{line_of, shown, token_at, token_len};
+pub use name_labels::is_own;
+pub use tokens::{line_of, shown, token_at};

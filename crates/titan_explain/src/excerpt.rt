@@ -3,50 +3,55 @@
 use crate::source::{Window, width_of, window_around};
 use std::alloc::{AllocError, Global};
 use ti_base::Place;
-use ti_explain::{Explanation, ReasonKind, RefusalReason};
+use ti_explain::{Explanation, ReasonKind, ReasonSpan};
 use ti_rules::{Refusal, rule_text};
-use ti_wording::{
-    NoMemory, expectation, help, line_of, primary_label, reason_label, shown, token_at, token_len,
-};
+use ti_wording::{NoMemory, error_label, help_of, is_own, line_of, reason_label, shown, token_at};
 
 // The largest number of marks that are shown.
 const MOST_MARKS: usize = 6;
 
-// A mark below a line: the position of its first byte, what it is drawn with, and what it says.
+// A mark below a line: the position of its first byte, the number of its bytes, what it is drawn with, and what it says.
 #[derive(Drop)]
 struct Underline {
     place: Place,
+    len: usize,
     drawn: char,
     label: String,
 }
 
-// The mark of the refusal itself. Where the text says what could stand there, its label does.
-fn own_mark(alloc: Global, text: &[u8], explanation: &Explanation) -> Result<Underline, NoMemory> {
-    let refusal = explanation.refusal;
-    let token = shown(alloc, token_at(text, refusal.place))?;
-    let mut label = expectation(alloc, &explanation.reasons, token.as_str())?;
-    if label.is_empty() {
-        label.push_str(primary_label(refusal.rule))?;
-    }
+// The mark of the refusal itself.
+fn error_mark(
+    alloc: Global,
+    text: &[u8],
+    explanation: &Explanation,
+) -> Result<Underline, NoMemory> {
     Ok(Underline {
-        place: refusal.place,
+        place: explanation.refusal.place,
+        len: explanation.len,
         drawn: '^',
-        label,
+        label: error_label(alloc, text, explanation)?,
     })
 }
 
-fn reason_mark(alloc: Global, text: &[u8], reason: &RefusalReason) -> Result<Underline, NoMemory> {
-    let token = shown(alloc, token_at(text, reason.place))?;
+fn reason_mark(alloc: Global, text: &[u8], reason: &ReasonSpan) -> Result<Underline, NoMemory> {
+    let token = shown(alloc, token_at(text, reason.place, reason.len))?;
     Ok(Underline {
         place: reason.place,
+        len: reason.len,
         drawn: '-',
         label: reason_label(alloc, &reason.kind, token.as_str())?,
     })
 }
 
-// Whether the reason is said by the mark of the refusal itself.
-fn is_expectation(reason: &RefusalReason) -> bool {
-    matches!(reason.kind, ReasonKind::Expected(_))
+// Whether the reason has a mark of its own: an expected token is said by the mark of the refusal, a variable by that of its declaration.
+fn is_marked(reason: &ReasonSpan, next: Option<&ReasonSpan>) -> bool {
+    match &reason.kind {
+        ReasonKind::Plain(_) => match next {
+            Some(next) => !matches!(&next.kind, ReasonKind::PlainDeclaration),
+            None => true,
+        },
+        kind => !is_own(kind),
+    }
 }
 
 // The marks of an explanation, in the order of the text.
@@ -56,9 +61,10 @@ fn marks_of(
     explanation: &Explanation,
 ) -> Result<Vec<Underline>, NoMemory> {
     let mut marks = Vec::new(alloc);
-    marks.push(own_mark(alloc, text, explanation)?)?;
-    for reason in &explanation.reasons {
-        if marks.len() < MOST_MARKS && !is_expectation(reason) {
+    marks.push(error_mark(alloc, text, explanation)?)?;
+    for (i, reason) in explanation.reasons.iter().enumerate() {
+        let next = explanation.reasons.get(i.saturating_add(1));
+        if marks.len() < MOST_MARKS && is_marked(reason, next) {
             marks.push(reason_mark(alloc, text, reason)?)?;
         }
     }
@@ -147,7 +153,7 @@ fn push_mark(
     let at = (mark.place.col.saturating_sub(1) as usize).saturating_sub(part.before.len());
     let front = part.part.get(..at).unwrap_or(part.part);
     let rest = part.part.get(at..).unwrap_or(&[]);
-    let token = rest.get(..token_len(rest)).unwrap_or(rest);
+    let token = rest.get(..mark.len).unwrap_or(rest);
     let lead = if part.before.is_empty() { 1 } else { 4 };
     margin.push_blank(out)?;
     push_times(out, ' ', width_of(alloc, front)?.saturating_add(lead))?;
@@ -181,12 +187,7 @@ fn push_excerpts(
 }
 
 // Appends the help of the explanation, if there is any.
-fn push_help(
-    out: &mut String,
-    margin: Margin,
-    explanation: &Explanation,
-) -> Result<(), AllocError> {
-    let help = help(explanation);
+fn push_help(out: &mut String, margin: Margin, help: &str) -> Result<(), AllocError> {
     if help.is_empty() {
         return Ok(());
     }
@@ -221,6 +222,7 @@ pub(crate) fn report(
     margin.push_blank(&mut out)?;
     out.push('\n')?;
     push_excerpts(alloc, &mut out, text, margin, &marks)?;
-    push_help(&mut out, margin, explanation)?;
+    let help = help_of(alloc, text, explanation)?;
+    push_help(&mut out, margin, help.as_str())?;
     Ok(out)
 }
