@@ -1,5 +1,5 @@
 -- What an explanation of a text is: its refusal, with the reasons for it. Each phase that refuses says which reasons there are; so far,
--- there are reasons for an unexpected token and for the rules of single values, and none for the others.
+-- there are reasons for an unexpected token and for the rules of names and of single values, and none for the others.
 use Rattle.std.specs.Prelude.{◌≡◌, ℕ, List, [], map, Contains, Option, Some, None, Result, Ok, Err}
 use Rattle.ti_base.specs.declared.memory.Memory.{Memory}
 use Rattle.ti_syntax.specs.declared.token.Token.{Token}
