@@ -322,7 +322,7 @@ fn first_at(tokens: &[Token], place: Place) -> Option<usize>
 
 /// The texts of tokens that could stand in the place of the first one that no program can have there, and the end of the source if that could,
 /// each as a reason at that position.
-pub fn expected(
+pub fn expected_tokens(
     alloc: Global,
     tokens: Vec<Token>,
     place: Place,

@@ -8,7 +8,7 @@ ghost use Rattle.ti_explain.specs.Explanations.{Explains};
 ghost use Rattle.ti_explain.specs.Mirrors.Phases.{ProgramExplained, TreeExplained, TokensExplained, TextExplained};
 ghost use Rattle.ti_explain.specs.Mirrors.Trials.{AreTokens};
 
-use crate::expected::expected;
+use crate::expected::expected_tokens;
 use crate::methods::single_reasons;
 use crate::reason::{Explanation, RefusalReasons};
 use crate::refused_names::refused_name_reasons;
@@ -87,7 +87,7 @@ fn explain_tokens(alloc: Global, tokens: Vec<Token>) -> Result<Option<RefusalRea
         Ok(tree) => explain_tree(alloc, &tree),
         Err(ParseErr::Refused(refusal)) => match refusal.rule {
             Rule::G1 => {
-                let reasons = expected(alloc, tokens, refusal.place)?;
+                let reasons = expected_tokens(alloc, tokens, refusal.place)?;
                 Ok(Some(RefusalReasons { refusal, reasons }))
             }
             _ => Ok(Some(unexplained(alloc, refusal))),

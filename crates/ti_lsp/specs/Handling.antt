@@ -123,12 +123,12 @@ RespondsInPhase Aborted rejects documents id s r t sent = RespondsError s t sent
 -- ---- notifications
 
 -- the phase after `exit`
-abbrev pub exited : Phase → Phase
-exited ShutDown = Exited
-exited Exited = Exited
-exited Uninitialized = Aborted
-exited Running = Aborted
-exited Aborted = Aborted
+abbrev pub after_exit : Phase → Phase
+after_exit ShutDown = Exited
+after_exit Exited = Exited
+after_exit Uninitialized = Aborted
+after_exit Running = Aborted
+after_exit Aborted = Aborted
 
 -- the document with this URI has this text and version, and the error of the text, which is published; other documents stay
 pub record Publishes (rejects : List ℕ → Diagnostic → Type 0) (encoding : PositionEncoding) (uri : List ℕ) (version : Option ℤ) (text : List ℕ)
@@ -200,7 +200,7 @@ UpdatesInPhase Aborted rejects encoding n before after sent = Passes before afte
 
 -- the state after a notification
 abbrev pub state_after_notification : State → NotificationView → State
-state_after_notification s exit = record { phase = exited s.phase; encoding = s.encoding }
+state_after_notification s exit = record { phase = after_exit s.phase; encoding = s.encoding }
 state_after_notification s (opened uri version text) = s
 state_after_notification s (changed uri version changes) = s
 state_after_notification s (closed uri) = s

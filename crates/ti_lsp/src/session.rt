@@ -7,7 +7,7 @@ ghost use Rattle.serde_json.specs.View.{view};
 ghost use Rattle.ti_lsp.specs.Analysis.{HasNoDiagnostic, IsFix};
 ghost use Rattle.ti_lsp.specs.Handling.{Changes, Clears, Handles, Initializes, Lists, Offers, Publishes};
 ghost use Rattle.ti_lsp.specs.Handling.{Receives, Responds, RespondsInPhase, Updates};
-ghost use Rattle.ti_lsp.specs.Handling.{changed_text, exited, hover_in, is_stale};
+ghost use Rattle.ti_lsp.specs.Handling.{changed_text, after_exit, hover_in, is_stale};
 ghost use Rattle.ti_lsp.specs.Messages.{message_of};
 ghost use Rattle.ti_lsp.specs.Views.{change_view, notification_view, request_view};
 ghost use Rattle.ti_lsp.specs.declared.edit.TextEdit.{TextEdit as TextEditSeen};
@@ -43,8 +43,8 @@ pub enum Phase {
 
 impl Phase {
     // The phase after `exit`.
-    fn exited(self) -> Phase
-        ensures { result ≡ exited self }
+    fn after_exit(self) -> Phase
+        ensures { result ≡ after_exit self }
     {
         match self {
             Phase::ShutDown | Phase::Exited => Phase::Exited,
@@ -401,7 +401,7 @@ impl<A: Analyzer> Session<A> {
     {
         match (self.phase, notification) {
             (_, Notification::Exit) => {
-                self.phase = self.phase.exited();
+                self.phase = self.phase.after_exit();
                 Ok(None)
             }
             (Phase::Running, notification) => self.update(alloc, notification),

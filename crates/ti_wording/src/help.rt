@@ -5,7 +5,7 @@ use crate::grammar_help::{byte_help, grammar_help};
 use crate::memory::NoMemory;
 use crate::name_labels::name_help;
 use crate::token_words::type_help;
-use crate::tokens::{has_word, line_of, shown, token_at};
+use crate::tokens::{display_text, has_word, line_of, token_at};
 use std::alloc::{AllocError, Global};
 use ti_base::Place;
 use ti_explain::{Explanation, PlainCause, ReasonKind, ReasonSpan};
@@ -125,9 +125,9 @@ fn push_declaration_help(
         return help.push_str(OF_THIS_PROC);
     }
     help.push_str("declare `")?;
-    help.push_str(shown(alloc, written_type(line, place))?.as_str())?;
+    help.push_str(display_text(alloc, written_type(line, place))?.as_str())?;
     help.push_str(" single ")?;
-    help.push_str(shown(alloc, token_at(text, place, declaration.len))?.as_str())?;
+    help.push_str(display_text(alloc, token_at(text, place, declaration.len))?.as_str())?;
     help.push_str(if is_sent {
         "`; what a broadcast gives is the same in all processes"
     } else {

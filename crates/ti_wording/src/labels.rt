@@ -5,7 +5,7 @@ use crate::expectation::expectation;
 use crate::memory::NoMemory;
 use crate::name_labels::{own_label, push_name_reason};
 use crate::token_words::type_label;
-use crate::tokens::{shown, token_at};
+use crate::tokens::{display_text, token_at};
 use std::alloc::{AllocError, Global};
 use ti_explain::{Explanation, GlobalEffect, PlainCause, ReasonKind, ReasonSpan};
 use ti_rules::Rule;
@@ -169,7 +169,7 @@ pub fn error_label(
     explanation: &Explanation,
 ) -> Result<String, NoMemory> {
     let refusal = explanation.refusal;
-    let token = shown(alloc, token_at(text, refusal.place, explanation.len))?;
+    let token = display_text(alloc, token_at(text, refusal.place, explanation.len))?;
     let mut label = expectation(alloc, &explanation.reasons, token.as_str())?;
     if label.is_empty() {
         label.push_str(first_own_label(&explanation.reasons))?;

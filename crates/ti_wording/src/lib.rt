@@ -15,4 +15,4 @@ pub use help::{help_of, rule_help};
 pub use labels::{error_label, primary_label, reason_label};
 pub use memory::NoMemory;
 pub use name_labels::is_own;
-pub use tokens::{line_of, shown, token_at};
+pub use tokens::{display_text, line_of, token_at};

@@ -24,7 +24,7 @@ pub(crate) fn has_word(line: &[u8], word: &str) -> bool {
 }
 
 /// These bytes as text in one line.
-pub fn shown(alloc: Global, bytes: &[u8]) -> Result<String, AllocError> {
+pub fn display_text(alloc: Global, bytes: &[u8]) -> Result<String, AllocError> {
     let mut text = String::new(alloc);
     for chunk in bytes.utf8_chunks() {
         for c in chunk.valid().chars() {

@@ -5,7 +5,9 @@ use std::alloc::{AllocError, Global};
 use ti_base::Place;
 use ti_explain::{Explanation, ReasonKind, ReasonSpan};
 use ti_rules::{Refusal, rule_text};
-use ti_wording::{NoMemory, error_label, help_of, is_own, line_of, reason_label, shown, token_at};
+use ti_wording::{
+    NoMemory, display_text, error_label, help_of, is_own, line_of, reason_label, token_at,
+};
 
 // The largest number of marks that are shown.
 const MOST_MARKS: usize = 6;
@@ -34,7 +36,7 @@ fn error_mark(
 }
 
 fn reason_mark(alloc: Global, text: &[u8], reason: &ReasonSpan) -> Result<Underline, NoMemory> {
-    let token = shown(alloc, token_at(text, reason.place, reason.len))?;
+    let token = display_text(alloc, token_at(text, reason.place, reason.len))?;
     Ok(Underline {
         place: reason.place,
         len: reason.len,
@@ -135,7 +137,7 @@ fn push_line(
     if !part.before.is_empty() {
         out.push_str("...")?;
     }
-    out.push_str(shown(alloc, part.part)?.as_str())?;
+    out.push_str(display_text(alloc, part.part)?.as_str())?;
     if part.is_cut {
         out.push_str("...")?;
     }

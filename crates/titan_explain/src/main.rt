@@ -67,7 +67,7 @@ fn read(rt: &HostRuntime, name: &str) -> Result<Vec<u8>, Stop> {
 }
 
 // The report of a text; None if it is accepted.
-fn explained(alloc: Global, name: &str, text: &[u8]) -> Result<Option<String>, Stop> {
+fn report_on(alloc: Global, name: &str, text: &[u8]) -> Result<Option<String>, Stop> {
     match explain(alloc, text) {
         Ok(None) => Ok(None),
         Ok(Some(explanation)) => match report(alloc, name, text, &explanation) {
@@ -81,7 +81,7 @@ fn explained(alloc: Global, name: &str, text: &[u8]) -> Result<Option<String>, S
 // Writes the report of a file, if its text is refused, with this text before it. Returns whether it is.
 fn run(rt: &HostRuntime, name: &str, before: &str) -> Result<bool, Stop> {
     let text = read(rt, name)?;
-    match explained(rt.alloc(), name, &text)? {
+    match report_on(rt.alloc(), name, &text)? {
         Some(report) => match print!(rt; "{before}{report}") {
             Ok(()) => Ok(true),
             Err(_) => Err(Stop::Unwritable),

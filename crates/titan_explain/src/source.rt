@@ -3,7 +3,7 @@
 // Positions count bytes; what is shown counts columns of a terminal.
 
 use std::alloc::{AllocError, Global};
-use ti_wording::shown;
+use ti_wording::display_text;
 use unicode_width::UnicodeWidthStr;
 
 // The widest part of a line that is shown, in bytes.
@@ -14,7 +14,7 @@ const LEAD: usize = 40;
 
 /// The columns that these bytes take when they are shown.
 pub(crate) fn width_of(alloc: Global, bytes: &[u8]) -> Result<usize, AllocError> {
-    Ok(shown(alloc, bytes)?.as_str().width())
+    Ok(display_text(alloc, bytes)?.as_str().width())
 }
 
 /// A part of a line that is short enough to be shown: the bytes, and those before them.

@@ -2,7 +2,7 @@ use Rattle.std.proofs.Common.{List, Some, None, IfOk, take, refl, sym, ◌∙◌
 use Rattle.ti_syntax.specs.declared.token.Token.{Token}
 use Rattle.ti_explain.specs.Mirrors.Trials.{IsFirstAt, IsFront, TriesEnd}
 use Rattle.ti_explain.proofs.TrialLaws.{refused_there, not_nothing, known_before, tried_then_all}
-use Rattle.ti_explain.proofs.expected.expected.Goals as goal
+use Rattle.ti_explain.proofs.expected.expected_tokens.Goals as goal
 
 pub unreachable-requires : goal.unreachable-requires
 unreachable-requires c =
