@@ -33,11 +33,11 @@ module _ {V I : Type 0} {g : _} (table : TableId) where
       × (seen_by y.1 ≡ [])) (λ j. (sym (x.0 ∙ len) j, x.1 j)) (of, ap number_in is, ap seen_in is))
       (at_end ps p q i e)
 
-module _ {V I : Type 0} {g : _} (log_of : V → List (ℕ × I)) where
+module _ {B V I : Type 0} {g : _} (log_of : B → List (ℕ × I)) where
   -- once all passes are in one seat, the value is in its slot, and its log is legal with each of them
-  pub closing : (n id : ℕ) (me : Me (Option V) (SeatView I)) (passes left done : List (Pass V I g)) (words : List ℕ) (slots : List (Option V))
+  pub closing : (n id : ℕ) (me : Me (Option B) (SeatView I)) (passes left done : List (Pass V I g)) (words : List ℕ) (slots : List (Option B))
       → passes ≡ left ++ done → length left ≡ 0 → me ≡ (view false (map pass_view_of done), []) → length passes ≡ n
-      → Final (Seen (TableInvariant log_of n) id me.0) words slots → (x : V) × (get_elem? slots 0 ≡ some (Some x)) × AreLegal (log_of x) passes
+      → Final (Seen (TableInvariant log_of n) id me.0) words slots → (x : B) × (get_elem? slots 0 ≡ some (Some x)) × AreLegal (log_of x) passes
       × OneHasSeen (log_of x) passes × AreAll n passes × AreDistinct passes
   closing n id me passes left done words slots all empty is count final =
       let same : done ≡ passes = sym (all ∙ ap (λ l. l ++ done) (nothing left empty)) in
@@ -47,7 +47,7 @@ module _ {V I : Type 0} {g : _} (log_of : V → List (ℕ × I)) where
       (t.0, t.1, subst (λ ps. AreLegal (log_of t.0) ps) same t.2, subst (λ ps. OneHasSeen (log_of t.0) ps) same t.3, subst (λ ps. AreAll n ps) same t.4, subst (λ ps. AreDistinct ps) same t.5)
 
   -- the same of the value that was taken out of the slot
-  pub closed : (n : ℕ) (passes : List (Pass V I g)) (slots : List (Option V)) (v : V) → (x : V) × (get_elem? slots 0 ≡ some (Some x))
+  pub closed : (n : ℕ) (passes : List (Pass V I g)) (slots : List (Option B)) (v : B) → (x : B) × (get_elem? slots 0 ≡ some (Some x))
       × AreLegal (log_of x) passes × OneHasSeen (log_of x) passes × AreAll n passes × AreDistinct passes → get_elem? slots 0 ≡ some (Some v)
       → AreLegal (log_of v) passes × OneHasSeen (log_of v) passes × AreAll n passes × AreDistinct passes
   closed n passes slots v t taken =

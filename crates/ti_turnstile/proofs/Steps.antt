@@ -13,7 +13,7 @@ use Rattle.ti_turnstile.specs.Passes.{GrownBy, IsLegal}
 use Rattle.ti_turnstile.specs.declared.seat_view.PassView.{PassView}
 use Rattle.ti_turnstile.specs.declared.seat_view.SeatView.{SeatView}
 use Rattle.ti_turnstile.specs.PassViews.{pass_view, first_seen, AllPasses, AnyPass, HasSeen, HasNumber, Distinct, number_in, seen_in}
-use Rattle.ti_turnstile.specs.Mirrors.Views.{view, outside, inside, new_passes, SomeSeat, total, size, BelongsToSeat, IsPass, NoneInside, OneInside, IsUnlocked, IsLocked, TableInvariant, TriesToAcquire, Publishes, Releases}
+use Rattle.ti_turnstile.specs.Mirrors.Views.{view, outside, inside, new_passes, SomeSeat, total, size, BelongsToSeat, IsPass, NoneInside, OneInside, IsUnlocked, IsLocked, TableInvariant, TriesToAcquire, Releases, Announces}
 use Rattle.ti_turnstile.proofs.Lists.{get_set, at_end, legal_self, legal_grown, all_map, all_both, all_append, total_set, total_two}
 use Rattle.ti_turnstile.proofs.Lists.{total_append, fresh_length, fresh_all, fresh_above, fresh_seen, fresh_number, fresh_distinct}
 use Rattle.ti_turnstile.proofs.Lists.{distinct_append, after_set, any_left, any_right, any_some, some_set, some_cut, some_join, after_cut}
@@ -87,10 +87,10 @@ module _ {V I : Type 0} (log_of : V → List (ℕ × I)) where
       ))
       r.turn
 
-  -- the holder's view takes in the log of the value
-  pub sees : (n slots id k new : ℕ) (seen : List (ℕ × I)) (x : V) (st : Step (Option V)) → GrownBy k seen (log_of x)
-      → Allows (TableInvariant log_of n) slots id (inside k seen, (0, Some x) ∷ []) 1 (λ _. new) (λ _. Publishes log_of st (inside k seen, (0, Some x) ∷ []) new)
-  sees n slots id k new seen x st grown s r wide at _ = ⊎_elim
+  -- the holder goes out, has seen the log of the value, and the value is back in its slot
+  pub goes : (n slots id k : ℕ) (seen : List (ℕ × I)) (x : V) (st : Step (Option V)) → GrownBy k seen (log_of x)
+      → Allows (TableInvariant log_of n) slots id (inside k seen, (0, Some x) ∷ []) 0 (λ _. 0) (λ _. Releases log_of st (inside k seen, (0, Some x) ∷ []) 0)
+  goes n slots id k seen x st grown s r wide at _ = ⊎_elim
       (λ (free : IsUnlocked log_of r.log r.hint s). absurd (false≢true (sym (free.4 id (inside k seen) at))))
       (λ (held : IsLocked log_of r.log r.hint s). elim (ℕ_discrete id held.2) [
         | no ne ↦ absurd (false≢true (sym (held.5 id (inside k seen) ne at)))
@@ -99,15 +99,14 @@ module _ {V I : Type 0} (log_of : V → List (ℕ × I)) where
             let whole : seen ≡ r.log = ap (λ (v : SeatView I). first_seen v.passes) it in
             let grown' : GrownBy k r.log (log_of x) = subst (λ l. GrownBy k l (log_of x)) whole grown in
             let mine : r.owner k ≡ id = (r.each id (inside k seen) at).0.1 in
-            let w : SeatView I = inside k (log_of x) in
-            let here : get_elem? (set s.views id w) id ≡ some w = get_set s.views id (inside k seen) w at in
-            let words : 1 ∷ new ∷ [] ≡ set s.words 1 new = ap (λ l. set l 1 new) (sym held.0) in (
+            let w : SeatView I = outside k (log_of x) in
+            let here : get_elem? (set s.views id w) id ≡ some w = get_set s.views id (inside k seen) w at in (
               w,
-              keeps,
+              gives,
               tt,
               record {
                 log = log_of x;
-                hint = new;
+                hint = r.hint;
                 owner = r.owner;
                 count = (let t = total_set size s.views id (inside k seen) w at in let c = r.count in omega arith);
                 each = each_set (log_of x) r.owner s.views id w
@@ -117,42 +116,11 @@ module _ {V I : Type 0} (log_of : V → List (ℕ × I)) where
                 apart = after_set (λ v. Distinct v.passes) s.views id w r.apart (tt, tt);
                 knower = (id, w, here, inl refl);
                 cover = λ i lt. some_set (λ p. p.number ≡ i) s.views id (inside k seen) w at (λ h. h) (r.cover i lt);
-                turn = inr (sym words, held.1, id, k, here, one_after s.views id w (λ j v ne e'. held.5 j v (λ h. ne (h ∙ sym e)) e'));
-              },
-              (refl, refl),
-            )
-      ])
-      r.turn
-
-  -- the holder goes out, and the value is back in its slot
-  pub goes : (n slots id k : ℕ) (x : V) (st : Step (Option V))
-      → Allows (TableInvariant log_of n) slots id (inside k (log_of x), (0, Some x) ∷ []) 0 (λ _. 0) (λ _. Releases log_of st (inside k (log_of x), (0, Some x) ∷ []) 0)
-  goes n slots id k x st s r wide at _ = ⊎_elim
-      (λ (free : IsUnlocked log_of r.log r.hint s). absurd (false≢true (sym (free.4 id (inside k (log_of x)) at))))
-      (λ (held : IsLocked log_of r.log r.hint s). elim (ℕ_discrete id held.2) [
-        | no ne ↦ absurd (false≢true (sym (held.5 id (inside k (log_of x)) ne at)))
-        | yes e ↦
-            let it : inside k (log_of x) ≡ inside held.3 r.log = some-injective (inside k (log_of x)) (inside held.3 r.log) (sym at ∙ ap (λ i. get_elem? s.views i) e ∙ held.4) in
-            let whole : log_of x ≡ r.log = ap (λ (v : SeatView I). first_seen v.passes) it in
-            let w : SeatView I = outside k (log_of x) in
-            let here : get_elem? (set s.views id w) id ≡ some w = get_set s.views id (inside k (log_of x)) w at in (
-              w,
-              gives,
-              tt,
-              record {
-                log = r.log;
-                hint = r.hint;
-                owner = r.owner;
-                count = (let t = total_set size s.views id (inside k (log_of x)) w at in let c = r.count in omega arith);
-                each = each_set r.log r.owner s.views id w (λ j v ne e. r.each j v e) (r.each id (inside k (log_of x)) at);
-                apart = after_set (λ v. Distinct v.passes) s.views id w r.apart (tt, tt);
-                knower = (id, w, here, inl whole);
-                cover = λ i lt. some_set (λ p. p.number ≡ i) s.views id (inside k (log_of x)) w at (λ h. h) (r.cover i lt);
                 turn = inl (
                   ap (λ l. set l 0 0) held.0,
                   x,
                   ap (λ l. set l 0 (some (Some x))) held.1,
-                  whole,
+                  refl,
                   none_after s.views id w (λ j v ne e'. held.5 j v (λ h. ne (h ∙ sym e)) e') refl,
                 );
               },
@@ -160,6 +128,31 @@ module _ {V I : Type 0} (log_of : V → List (ℕ × I)) where
             )
       ])
       r.turn
+
+  -- the hint is another, and all else is as it was
+  pub announces : (n slots id new : ℕ) (m : Me (Option V) (SeatView I)) (st : Step (Option V))
+      → Allows (TableInvariant log_of n) slots id m 1 (λ _. new) (λ _. Announces st m new)
+  announces n slots id new m st s r wide at _ =
+      let same : set s.views id m.0 ≡ s.views = set_again s.views id m.0 at in (
+        m.0,
+        keeps,
+        tt,
+        subst (λ (vs : List (SeatView I)). TableInvariant log_of n record { words = set s.words 1 new; homes = s.homes; views = vs }) (sym same) record {
+          log = r.log;
+          hint = new;
+          owner = r.owner;
+          count = r.count;
+          each = r.each;
+          apart = r.apart;
+          knower = r.knower;
+          cover = r.cover;
+          turn = ⊎_elim
+              (λ (free : IsUnlocked log_of r.log r.hint s). inl (ap (λ l. set l 1 new) free.0, free.1, free.2, free.3, free.4))
+              (λ (held : IsLocked log_of r.log r.hint s). inr (ap (λ l. set l 1 new) held.0, held.1, held.2, held.3, held.4, held.5))
+              r.turn;
+        },
+        refl,
+      )
 
   pub opens : (n : ℕ) (x : V) → 0 < n → log_of x ≡ [] → TableInvariant log_of n (opening (0 ∷ 0 ∷ []) (Some x ∷ []) (view false (new_passes 0 n)))
   opens n x some_pass empty =
@@ -312,17 +305,11 @@ module _ {V I : Type 0} (log_of : V → List (ℕ × I)) where
   tries_from n slots id m st is = subst (λ (u : Me (Option V) (SeatView I)). Allows (TableInvariant log_of n) slots id u 0 (λ w. either (w == 0) 1 w)
       (TriesToAcquire log_of st u)) (λ i. (sym is.0 i, sym is.1 i)) (tries n slots id (number_in m) (seen_in m) st)
 
-  pub sees_from : (n slots id new : ℕ) (m : Me (Option V) (SeatView I)) (x : V) (st : Step (Option V)) → m.0 ≡ inside (number_in m) (seen_in m)
+  pub goes_from : (n slots id : ℕ) (m : Me (Option V) (SeatView I)) (x : V) (st : Step (Option V)) → m.0 ≡ inside (number_in m) (seen_in m)
       → m.1 ≡ (0, Some x) ∷ [] → GrownBy (number_in m) (seen_in m) (log_of x)
-      → Allows (TableInvariant log_of n) slots id m 1 (λ _. new) (λ _. Publishes log_of st m new)
-  sees_from n slots id new m x st view_is slot_is grown = subst (λ (u : Me (Option V) (SeatView I)). Allows (TableInvariant log_of n) slots id u 1
-      (λ _. new) (λ _. Publishes log_of st u new)) (λ i. (sym view_is i, sym slot_is i))
-      (sees n slots id (number_in m) new (seen_in m) x st grown)
-
-  pub goes_from : (n slots id k : ℕ) (m : Me (Option V) (SeatView I)) (x : V) (st : Step (Option V)) → m.0 ≡ inside k (log_of x) → m.1 ≡ (0, Some x) ∷ []
       → Allows (TableInvariant log_of n) slots id m 0 (λ _. 0) (λ _. Releases log_of st m 0)
-  goes_from n slots id k m x st view_is slot_is = subst (λ (u : Me (Option V) (SeatView I)). Allows (TableInvariant log_of n) slots id u 0 (λ _. 0)
-      (λ _. Releases log_of st u 0)) (λ i. (sym view_is i, sym slot_is i)) (goes n slots id k x st)
+  goes_from n slots id m x st view_is slot_is grown = subst (λ (u : Me (Option V) (SeatView I)). Allows (TableInvariant log_of n) slots id u 0 (λ _. 0)
+      (λ _. Releases log_of st u 0)) (λ i. (sym view_is i, sym slot_is i)) (goes n slots id (number_in m) (seen_in m) x st grown)
 
   pub cuts_from : (n id i m : ℕ) (v : SeatView I) → v ≡ view false (new_passes i (m + 1)) → Splits (TableInvariant log_of n) id v (view false (drop 1 v.passes)) (view false (take 1 v.passes))
   cuts_from n id i m v is = subst (λ (u : SeatView I). Splits (TableInvariant log_of n) id u (view false (drop 1 u.passes)) (view false (take 1 u.passes)))

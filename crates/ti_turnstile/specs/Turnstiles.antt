@@ -37,14 +37,14 @@ abbrev pub number_inside : {V I : Type 0} {g : _} → Inside V I g → ℕ
 number_inside i = number_in i.held.seat.me
 
 abbrev pub value_inside : {V I : Type 0} {g : _} → Inside V I g → V
-value_inside i = i.value
+value_inside i = i.value.value
 
 abbrev pub found_inside : {V I : Type 0} {g : _} → Inside V I g → List (ℕ × I)
 found_inside i = seen_in i.held.seat.me
 
 -- the pass inside, with another value
 abbrev pub with_value : {V I : Type 0} {g : _} → Inside V I g → V → Inside V I g
-with_value i x = record { held = i.held; value = x }
+with_value i x = record i { value = record i.value { value = x } }
 
 -- ---- lists of passes
 

@@ -10,11 +10,11 @@ pub struct TurnstileRule<V> {
     of: PhantomData<V>,
 }
 
-impl<V: Kept> TableRule<Option<V>, SeatView<V::Item>, u32> for TurnstileRule<V> {
+impl<V: Kept> TableRule<Option<Box<V>>, SeatView<V::Item>, u32> for TurnstileRule<V> {
     ghost use Rattle.std.specs.Prelude.{false};
-    ghost use Rattle.ti_turnstile.specs.Mirrors.Views.{TableInvariant, view, new_passes};
+    ghost use Rattle.ti_turnstile.specs.Mirrors.Views.{TableInvariant, log_in_box, view, new_passes};
 
-    ghost holds = { λ n. TableInvariant V.log n };
+    ghost holds = { λ n. TableInvariant (log_in_box V.log) n };
 
     ghost first = { λ n. view false (new_passes 0 n) };
 }
@@ -24,32 +24,32 @@ pub struct Enter<V> {
     of: PhantomData<V>,
 }
 
-impl<V: Kept> Play<Option<V>, SeatView<V::Item>> for Enter<V> {
-    ghost use Rattle.ti_turnstile.specs.Mirrors.Views.{TriesToAcquire};
+impl<V: Kept> Play<Option<Box<V>>, SeatView<V::Item>> for Enter<V> {
+    ghost use Rattle.ti_turnstile.specs.Mirrors.Views.{TriesToAcquire, log_in_box};
 
-    ghost then = { TriesToAcquire V.log };
+    ghost then = { TriesToAcquire (log_in_box V.log) };
 }
 
-/// Transition: while the seat holds the lock, its view becomes the value's log.
-pub struct Publish<V> {
-    of: PhantomData<V>,
-}
-
-impl<V: Kept> Play<Option<V>, SeatView<V::Item>> for Publish<V> {
-    ghost use Rattle.ti_turnstile.specs.Mirrors.Views.{Publishes};
-
-    ghost then = { Publishes V.log };
-}
-
-/// Transition: releases the lock.
+/// Transition: the seat's view becomes the value's log, and the lock is released.
 pub struct Leave<V> {
     of: PhantomData<V>,
 }
 
-impl<V: Kept> Play<Option<V>, SeatView<V::Item>> for Leave<V> {
-    ghost use Rattle.ti_turnstile.specs.Mirrors.Views.{Releases};
+impl<V: Kept> Play<Option<Box<V>>, SeatView<V::Item>> for Leave<V> {
+    ghost use Rattle.ti_turnstile.specs.Mirrors.Views.{Releases, log_in_box};
 
-    ghost then = { Releases V.log };
+    ghost then = { Releases (log_in_box V.log) };
+}
+
+/// Transition: stores the hint. The seat stays as it is.
+pub struct Announce<V> {
+    of: PhantomData<V>,
+}
+
+impl<V: Kept> Play<Option<Box<V>>, SeatView<V::Item>> for Announce<V> {
+    ghost use Rattle.ti_turnstile.specs.Mirrors.Views.{Announces};
+
+    ghost then = { Announces };
 }
 
 /// Split of seats: the first pass of a seat goes to a seat of its own.

@@ -4,21 +4,24 @@
 ghost use Rattle.std.specs.Prelude.{◌≡◌, ℕ, ◌<◌, ◌+◌, [], ◌∷◌, length, drop, IsTrue, false, Some, IfOk};
 ghost use Rattle.ti_turnstile.specs.Passes.{GrownBy, IsLegal};
 ghost use Rattle.ti_turnstile.specs.PassViews.{number_in, seen_in};
-ghost use Rattle.ti_turnstile.specs.Mirrors.Views.{IsPass, IsInside, HasEntered, HasValue, carried_log, inside, outside, view, new_passes};
+ghost use Rattle.ti_turnstile.specs.Mirrors.Views.{IsPass, IsInside, HasEntered, HasValue, IsLeaving, carried_log, log_in_box, inside, outside, view, new_passes};
 
 use crate::kept::Kept;
-use crate::protocol::{Enter, JoinPasses, Leave, Publish, SplitPass, TurnstileRule};
+use crate::protocol::{Announce, Enter, JoinPasses, Leave, SplitPass, TurnstileRule};
 use crate::seat_view::SeatView;
 use atomic_table::{Seat, Table};
-use crossbeam_utils::Backoff;
 use std::alloc::Global;
 use std::sync::Wait;
 use std::sync::atomic::{AtomicUsize, Ordering};
 use std::time::Duration;
+use std::{hint, thread};
 use ti_base::Memory;
 
-// How often a pass tries to acquire the lock before it sleeps, with a longer pause after each try.
-const TRIES: u32 = 8;
+// How often a pass looks whether the lock is free before it sleeps.
+const LOOKS: u32 = 300;
+
+// After how many of these looks it only pauses. After each later one it lets another thread run.
+const PAUSES: u32 = 200;
 
 // The longest sleep, in microseconds: a thread that misses a wake-up continues after it.
 const PARK_MICROS: u64 = 50;
@@ -28,7 +31,7 @@ const PARK_MICROS: u64 = 50;
 /// Contracts see which turnstile it is (`identity_of`) and how many passes it has (`passes_of`).
 #[derive(Drop)]
 pub struct Turnstile<V: Kept> {
-    table: Table<Option<V>, SeatView<V::Item>, u32, TurnstileRule<V>, Global>,
+    table: Table<Option<Box<V>>, SeatView<V::Item>, u32, TurnstileRule<V>, Global>,
     // How many threads sleep in `enter`, and how many in `park_briefly`, or are about to. The counts decide only whether threads are woken.
     entering: AtomicUsize,
     parked: AtomicUsize,
@@ -41,13 +44,13 @@ pub struct Turnstile<V: Kept> {
 /// `number_of`, `seen_by`).
 #[derive(Drop)]
 pub struct Pass<V: Kept> {
-    seat: Seat<Option<V>, SeatView<V::Item>>,
+    seat: Seat<Option<Box<V>>, SeatView<V::Item>>,
     ghost is_pass: { IsPass seat.me },
 }
 
 // A seat that is inside, and has taken the value out of the slot.
 pub struct HeldSeat<V: Kept> {
-    seat: Seat<Option<V>, SeatView<V::Item>>,
+    seat: Seat<Option<Box<V>>, SeatView<V::Item>>,
     ghost is_inside: { IsInside seat.me },
 }
 
@@ -57,7 +60,7 @@ pub struct HeldSeat<V: Kept> {
 /// `number_inside`, `value_inside`, `found_inside`).
 pub struct Inside<V: Kept> {
     held: HeldSeat<V>,
-    value: V,
+    value: Box<V>,
 }
 
 impl<V: Kept> Inside<V> {
@@ -70,7 +73,16 @@ impl<V: Kept> Inside<V> {
         ensures* writes_back { sem 𝓛 (follows (the_row V.row V.Item.row V.Kept) V.row self.entry.ghost_name result.ghost_name (with_value self.old)) }
         ensures value { result.now ≡ value_inside self.old }
     {
-        &mut self.value
+        self.value.as_mut()
+    }
+}
+
+// Waits a moment after the look with this index.
+fn pause_after(look: u32) {
+    if look < PAUSES {
+        hint::spin_loop();
+    } else {
+        thread::yield_now();
     }
 }
 
@@ -87,8 +99,9 @@ impl<V: Kept> Turnstile<V> {
         ensures all { IfOk result (λ r. length r.1.items ≡ count) }
         ensures new { IfOk result (λ r. AreNew (identity_of r.0) r.1.items) }
     {
+        let boxed = Box::new(alloc, value)?;
         let mut slots = Vec::with_capacity(alloc, 1)?;
-        slots.push(Some(value))?;
+        slots.push(Some(boxed))?;
         let Ok((table, mut dealer)) = Table::new(alloc, &[0, 0], slots, &count) else {
             return Err(Memory);
         };
@@ -102,7 +115,7 @@ impl<V: Kept> Turnstile<V> {
     }
 
     // Splits off the next of the passes that the dealer has.
-    fn split_pass(&self, dealer: &mut Seat<Option<V>, SeatView<V::Item>>) -> Pass<V>
+    fn split_pass(&self, dealer: &mut Seat<Option<Box<V>>, SeatView<V::Item>>) -> Pass<V>
         requires table { dealer.old.table_id ≡ identity_of self.now }
         requires dealer { (i : ℕ) × (m : ℕ) × (dealer.old.me.0 ≡ view false (new_passes i (m + 1))) × (dealer.old.me.1 ≡ []) }
         ensures table { (dealer.new.table_id ≡ dealer.old.table_id) × (result.seat.table_id ≡ dealer.old.table_id) }
@@ -117,7 +130,7 @@ impl<V: Kept> Turnstile<V> {
     fn split_passes(
         &self,
         alloc: Global,
-        dealer: &mut Seat<Option<V>, SeatView<V::Item>>,
+        dealer: &mut Seat<Option<Box<V>>, SeatView<V::Item>>,
         count: u32,
     ) -> Result<Vec<Pass<V>>, Memory>
         requires table { dealer.old.table_id ≡ identity_of self.now }
@@ -131,14 +144,17 @@ impl<V: Kept> Turnstile<V> {
         Ok(passes)
     }
 
-    // Tries to acquire the lock once; returns whether the seat is inside now.
-    fn try_acquire(&self, seat: &mut Seat<Option<V>, SeatView<V::Item>>) -> bool
+    // Tries to acquire the lock once, unless it looks held; returns whether the seat is inside now.
+    fn try_acquire(&self, seat: &mut Seat<Option<Box<V>>, SeatView<V::Item>>) -> bool
         requires table { seat.old.table_id ≡ identity_of self.now }
         requires pass { IsPass seat.old.me }
         ensures table { seat.new.table_id ≡ seat.old.table_id }
-        ensures entered { IsTrue result → HasEntered V.log seat.old.me seat.new.me }
+        ensures entered { IsTrue result → HasEntered (log_in_box V.log) seat.old.me seat.new.me }
         ensures same { result ≡ false → seat.new.me ≡ seat.old.me }
     {
+        if self.table.shared.peek(0) != 0 {
+            return false;
+        }
         let found = self
             .table
             .shared
@@ -147,19 +163,18 @@ impl<V: Kept> Turnstile<V> {
     }
 
     // Tries to acquire the lock for about as long as another pass stays inside; returns whether the seat is inside now.
-    fn spin_acquire(&self, seat: &mut Seat<Option<V>, SeatView<V::Item>>) -> bool
+    fn spin_acquire(&self, seat: &mut Seat<Option<Box<V>>, SeatView<V::Item>>) -> bool
         requires table { seat.old.table_id ≡ identity_of self.now }
         requires pass { IsPass seat.old.me }
         ensures table { seat.new.table_id ≡ seat.old.table_id }
-        ensures entered { IsTrue result → HasEntered V.log seat.old.me seat.new.me }
+        ensures entered { IsTrue result → HasEntered (log_in_box V.log) seat.old.me seat.new.me }
         ensures same { result ≡ false → seat.new.me ≡ seat.old.me }
     {
-        let backoff = Backoff::new();
-        for _ in 0..TRIES {
+        for look in 0..LOOKS {
             if self.try_acquire(seat) {
                 return true;
             }
-            backoff.spin();
+            pause_after(look);
         }
         false
     }
@@ -190,9 +205,9 @@ impl<V: Kept> Turnstile<V> {
     }
 
     // Takes the value out of its slot.
-    fn take_value(&self, mut seat: Seat<Option<V>, SeatView<V::Item>>) -> Inside<V>
+    fn take_value(&self, mut seat: Seat<Option<Box<V>>, SeatView<V::Item>>) -> Inside<V>
         requires table { seat.table_id ≡ identity_of self.now }
-        requires value { HasValue V.log seat.me }
+        requires value { HasValue (log_in_box V.log) seat.me }
         ensures table { turnstile_around result ≡ seat.table_id }
         ensures view { result.held.seat.me.0 ≡ seat.me.0 }
         ensures log { found_inside result ≡ V.log (value_inside result) }
@@ -207,11 +222,13 @@ impl<V: Kept> Turnstile<V> {
     }
 
     // Puts the value back into its slot.
-    fn put_value(&self, inside: Inside<V>) -> Seat<Option<V>, SeatView<V::Item>>
-        requires { turnstile_around inside ≡ identity_of self.now }
+    fn put_value(&self, inside: Inside<V>) -> Seat<Option<Box<V>>, SeatView<V::Item>>
+        requires turnstile { turnstile_around inside ≡ identity_of self.now }
+        requires grown { GrownBy (number_inside inside) (found_inside inside) (V.log (value_inside inside)) }
         ensures table { result.table_id ≡ turnstile_around inside }
-        ensures view { result.me.0 ≡ inside.held.seat.me.0 }
-        ensures slot { result.me.1 ≡ (0, Some (value_inside inside)) ∷ [] }
+        ensures number { number_in result.me ≡ number_inside inside }
+        ensures leaving { IsLeaving (log_in_box V.log) result.me }
+        ensures log { carried_log (log_in_box V.log) result.me.1 ≡ V.log (value_inside inside) }
     {
         let Inside { held, value } = inside;
         let HeldSeat { mut seat } = held;
@@ -221,40 +238,24 @@ impl<V: Kept> Turnstile<V> {
         }
     }
 
-    // Makes the seat's view the log of the value in its slot, and stores the hint.
-    fn publish(&self, seat: &mut Seat<Option<V>, SeatView<V::Item>>, hint: u64)
-        requires table { seat.old.table_id ≡ identity_of self.now }
-        requires value { (x : _) × (seat.old.me.0 ≡ inside (number_in seat.old.me) (seen_in seat.old.me))
-            × (seat.old.me.1 ≡ (0, Some x) ∷ []) × GrownBy (number_in seat.old.me) (seen_in seat.old.me) (V.log x) }
+    // Stores the hint. The seat stays as it is.
+    fn announce(&self, seat: &mut Seat<Option<Box<V>>, SeatView<V::Item>>, hint: u64)
+        requires { seat.old.table_id ≡ identity_of self.now }
         ensures table { seat.new.table_id ≡ seat.old.table_id }
-        ensures view { seat.new.me.0 ≡ inside (number_in seat.old.me) (carried_log V.log seat.old.me.1) }
-        ensures slot { seat.new.me.1 ≡ seat.old.me.1 }
+        ensures same { seat.new.me ≡ seat.old.me }
     {
-        self.table.shared.store::<Publish<V>>(seat, 1, hint);
+        self.table.shared.store::<Announce<V>>(seat, 1, hint);
     }
 
-    // Releases the lock, so that another seat can enter.
-    fn release(&self, seat: &mut Seat<Option<V>, SeatView<V::Item>>)
-        requires table { seat.old.table_id ≡ identity_of self.now }
-        requires value { (x : _) × (seat.old.me.0 ≡ inside (number_in seat.old.me) (V.log x)) × (seat.old.me.1 ≡ (0, Some x) ∷ []) }
-        ensures table { seat.new.table_id ≡ seat.old.table_id }
-        ensures view { seat.new.me.0 ≡ outside (number_in seat.old.me) (seen_in seat.old.me) }
-        ensures slot { seat.new.me.1 ≡ [] }
+    // Releases the lock, so that another seat can enter. The pass has then seen the whole log of the value in the slot.
+    fn release(&self, mut seat: Seat<Option<Box<V>>, SeatView<V::Item>>) -> Pass<V>
+        requires table { seat.table_id ≡ identity_of self.now }
+        requires leaving { IsLeaving (log_in_box V.log) seat.me }
+        ensures turnstile { turnstile_of result ≡ seat.table_id }
+        ensures number { number_of result ≡ number_in seat.me }
+        ensures seen { seen_by result ≡ carried_log (log_in_box V.log) seat.me.1 }
     {
-        self.table.shared.store::<Leave<V>>(seat, 0, 0);
-    }
-
-    // Puts the value back, stores the hint, and releases the lock.
-    fn leave_hint(&self, inside: Inside<V>, hint: u64) -> Pass<V>
-        requires turnstile { turnstile_around inside ≡ identity_of self.now }
-        requires grown { GrownBy (number_inside inside) (found_inside inside) (V.log (value_inside inside)) }
-        ensures turnstile { turnstile_of result ≡ turnstile_around inside }
-        ensures number { number_of result ≡ number_inside inside }
-        ensures seen { seen_by result ≡ V.log (value_inside inside) }
-    {
-        let mut seat = self.put_value(inside);
-        self.publish(&mut seat, hint);
-        self.release(&mut seat);
+        self.table.shared.store::<Leave<V>>(&mut seat, 0, 0);
         Pass { seat }
     }
 
@@ -267,7 +268,7 @@ impl<V: Kept> Turnstile<V> {
         ensures number { number_of result ≡ number_inside inside }
         ensures seen { seen_by result ≡ V.log (value_inside inside) }
     {
-        self.leave_hint(inside, self.hint())
+        self.release(self.put_value(inside))
     }
 
     /// Leaves the turnstile like `leave`, and wakes one thread that sleeps in `enter`, if any: for a thread that is about to wait itself.
@@ -292,7 +293,9 @@ impl<V: Kept> Turnstile<V> {
         ensures number { number_of result ≡ number_inside inside }
         ensures seen { seen_by result ≡ V.log (value_inside inside) }
     {
-        let pass = self.leave_hint(inside, self.hint().wrapping_add(1));
+        let mut seat = self.put_value(inside);
+        self.announce(&mut seat, self.hint().wrapping_add(1));
+        let pass = self.release(seat);
         if self.parked.load(Ordering::SeqCst) > 0 {
             self.table.shared.wake_all(1);
         }
@@ -333,7 +336,7 @@ impl<V: Kept> Turnstile<V> {
         let value = closed.take(0);
         closed.free();
         match value {
-            Some(value) => value,
+            Some(value) => Box::into_inner(value),
             None => unreachable!(),
         }
     }
@@ -342,8 +345,8 @@ impl<V: Kept> Turnstile<V> {
     fn join_pass(
         &self,
         pass: Pass<V>,
-        other: Seat<Option<V>, SeatView<V::Item>>,
-    ) -> Seat<Option<V>, SeatView<V::Item>>
+        other: Seat<Option<Box<V>>, SeatView<V::Item>>,
+    ) -> Seat<Option<Box<V>>, SeatView<V::Item>>
         requires table { (turnstile_of pass ≡ identity_of self.now) × (other.table_id ≡ identity_of self.now) }
         requires other { other.me ≡ (view false other.me.0.passes, []) }
         ensures table { result.table_id ≡ identity_of self.now }

@@ -2,8 +2,9 @@
 use Rattle.std.specs.Prelude.{◌≡◌, ◌≢◌, ℕ, zero, suc, ◌+◌, ◌<◌, ◌⊎◌, Bool, true, false, List, [], ◌∷◌, length, Option, Some, None}
 use mathlib.Core.Option.{some, none}
 use lib.ListN.{get_elem?}
+use Rattle.std.specs.declared.boxed.Box.{Box}
 use Rattle.atomic_table.specs.Table.{State, Me, Step}
-use Rattle.ti_turnstile.specs.Passes.{IsLegal}
+use Rattle.ti_turnstile.specs.Passes.{GrownBy, IsLegal}
 use Rattle.ti_turnstile.specs.PassViews.{pass_view, number_in, seen_in, AllPasses, AnyPass, Distinct}
 use Rattle.ti_turnstile.specs.declared.seat_view.PassView.{PassView}
 use Rattle.ti_turnstile.specs.declared.seat_view.SeatView.{SeatView}
@@ -86,6 +87,10 @@ module _ {V I : Type 0} (log_of : V → List (ℕ × I)) where
   abbrev pub HasValue : Me (Option V) (SeatView I) → Type 0
   HasValue m = (x : V) × (m.0 ≡ inside (number_in m) (log_of x)) × (m.1 ≡ (0, Some x) ∷ [])
 
+  -- a seat that is inside, with the value in its slot, whose log has grown only by items with the seat's number
+  abbrev pub IsLeaving : Me (Option V) (SeatView I) → Type 0
+  IsLeaving m = (x : V) × (m.0 ≡ inside (number_in m) (seen_in m)) × (m.1 ≡ (0, Some x) ∷ []) × GrownBy (number_in m) (seen_in m) (log_of x)
+
   -- a try to acquire the lock: it was free and the seat is inside now, or nothing changed
   abbrev pub TriesToAcquire : Step (Option V) → Me (Option V) (SeatView I) → ℕ → Me (Option V) (SeatView I) → Type 0
   TriesToAcquire s m found m' = (found ≡ 0 → HasEntered m m') × (found ≢ 0 → m' ≡ m)
@@ -96,10 +101,15 @@ module _ {V I : Type 0} (log_of : V → List (ℕ × I)) where
   carried_log ((k, None) ∷ cs) = []
   carried_log ((k, Some x) ∷ cs) = log_of x
 
-  -- the seat has seen the log of the value that it carries
-  abbrev pub Publishes : Step (Option V) → Me (Option V) (SeatView I) → ℕ → Me (Option V) (SeatView I) → Type 0
-  Publishes s m found m' = (m'.0 ≡ inside (number_in m) (carried_log m.1)) × (m'.1 ≡ m.1)
-
-  -- the seat is outside
+  -- the seat is outside, and has seen the log of the value that it carried
   abbrev pub Releases : Step (Option V) → Me (Option V) (SeatView I) → ℕ → Me (Option V) (SeatView I) → Type 0
-  Releases s m found m' = (m'.0 ≡ view false m.0.passes) × (m'.1 ≡ [])
+  Releases s m found m' = (m'.0 ≡ outside (number_in m) (carried_log m.1)) × (m'.1 ≡ [])
+
+module _ {V I : Type 0} where
+  -- the seat stays as it is
+  abbrev pub Announces : Step (Option V) → Me (Option V) (SeatView I) → ℕ → Me (Option V) (SeatView I) → Type 0
+  Announces s m found m' = m' ≡ m
+
+  -- the log of a box is that of its value
+  abbrev pub log_in_box : {A : Type 0} → (V → List (ℕ × I)) → Box V A → List (ℕ × I)
+  log_in_box log_of b = log_of b.value

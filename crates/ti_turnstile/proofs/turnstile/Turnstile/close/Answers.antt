@@ -1,7 +1,7 @@
-use Rattle.std.proofs.Common.{◌∷◌, [], ◌++◌, ap, sym, ◌∙◌, false, append_assoc}
+use Rattle.std.proofs.Common.{◌∷◌, [], ◌++◌, ap, sym, subst, ◌∙◌, false, append_assoc}
 use mathlib.Core.Option.{some, some-injective}
-use Rattle.ti_turnstile.specs.Mirrors.Views.{view}
-use Rattle.ti_turnstile.specs.Turnstiles.{identity_of, pass_view_of}
+use Rattle.ti_turnstile.specs.Mirrors.Views.{log_in_box, view}
+use Rattle.ti_turnstile.specs.Turnstiles.{identity_of, pass_view_of, AreLegal, OneHasSeen}
 use Rattle.ti_turnstile.proofs.Closing.{of_last, closing, closed}
 use Rattle.ti_turnstile.proofs.turnstile.Turnstile.close.Goals as goal
 
@@ -35,7 +35,7 @@ pub unreachable-requires-in-None : goal.unreachable-requires-in-None
 unreachable-requires-in-None g c =
     let inv = c.loop-pass.invariant in
     let left = c.loop-pass.passes in
-    let t = closing g.V.Kept.log c.args.self.table.shared.key c.loop-pass.seat.id c.loop-pass.seat.me c.args.passes.items left.items inv.2.0
+    let t = closing (log_in_box g.V.Kept.log) c.args.self.table.shared.key c.loop-pass.seat.id c.loop-pass.seat.me c.args.passes.items left.items inv.2.0
     _ _ inv.2.1 (sym left.ok.0 ∙ c.in_default-pop.ensures.cases.0) inv.2.2 c.requires.all c.close_with-closed.ensures.values.2 in
     let same = some-injective _ _ (sym t.1 ∙ c.take-value.ensures.value) in
     cc (same, c.in-None.is)
@@ -44,30 +44,32 @@ pub returns-clause-legal : goal.returns-clause-legal
 returns-clause-legal g c =
     let inv = c.loop-pass.invariant in
     let left = c.loop-pass.passes in
-    let t = closing g.V.Kept.log c.args.self.table.shared.key c.loop-pass.seat.id c.loop-pass.seat.me c.args.passes.items left.items inv.2.0
+    let t = closing (log_in_box g.V.Kept.log) c.args.self.table.shared.key c.loop-pass.seat.id c.loop-pass.seat.me c.args.passes.items left.items inv.2.0
     _ _ inv.2.1 (sym left.ok.0 ∙ c.in_default-pop.ensures.cases.0) inv.2.2 c.requires.all c.close_with-closed.ensures.values.2 in
-    (closed g.V.Kept.log c.args.self.table.shared.key c.args.passes.items _ c.in-Some-value.value t (c.take-value.ensures.value ∙ ap some c.in-Some-value.is)).0
+    subst (λ x. AreLegal (g.V.Kept.log x) c.args.passes.items) (sym c.into_inner.ensures)
+    (closed (log_in_box g.V.Kept.log) c.args.self.table.shared.key c.args.passes.items _ c.in-Some-value.value t (c.take-value.ensures.value ∙ ap some c.in-Some-value.is)).0
 
 pub returns-clause-whole : goal.returns-clause-whole
 returns-clause-whole g c =
     let inv = c.loop-pass.invariant in
     let left = c.loop-pass.passes in
-    let t = closing g.V.Kept.log c.args.self.table.shared.key c.loop-pass.seat.id c.loop-pass.seat.me c.args.passes.items left.items inv.2.0
+    let t = closing (log_in_box g.V.Kept.log) c.args.self.table.shared.key c.loop-pass.seat.id c.loop-pass.seat.me c.args.passes.items left.items inv.2.0
     _ _ inv.2.1 (sym left.ok.0 ∙ c.in_default-pop.ensures.cases.0) inv.2.2 c.requires.all c.close_with-closed.ensures.values.2 in
-    (closed g.V.Kept.log c.args.self.table.shared.key c.args.passes.items _ c.in-Some-value.value t (c.take-value.ensures.value ∙ ap some c.in-Some-value.is)).1
+    subst (λ x. OneHasSeen (g.V.Kept.log x) c.args.passes.items) (sym c.into_inner.ensures)
+    (closed (log_in_box g.V.Kept.log) c.args.self.table.shared.key c.args.passes.items _ c.in-Some-value.value t (c.take-value.ensures.value ∙ ap some c.in-Some-value.is)).1
 
 pub returns-clause-all : goal.returns-clause-all
 returns-clause-all g c =
     let inv = c.loop-pass.invariant in
     let left = c.loop-pass.passes in
-    let t = closing g.V.Kept.log c.args.self.table.shared.key c.loop-pass.seat.id c.loop-pass.seat.me c.args.passes.items left.items inv.2.0
+    let t = closing (log_in_box g.V.Kept.log) c.args.self.table.shared.key c.loop-pass.seat.id c.loop-pass.seat.me c.args.passes.items left.items inv.2.0
     _ _ inv.2.1 (sym left.ok.0 ∙ c.in_default-pop.ensures.cases.0) inv.2.2 c.requires.all c.close_with-closed.ensures.values.2 in
-    (closed g.V.Kept.log c.args.self.table.shared.key c.args.passes.items _ c.in-Some-value.value t (c.take-value.ensures.value ∙ ap some c.in-Some-value.is)).2
+    (closed (log_in_box g.V.Kept.log) c.args.self.table.shared.key c.args.passes.items _ c.in-Some-value.value t (c.take-value.ensures.value ∙ ap some c.in-Some-value.is)).2
 
 pub returns-clause-distinct : goal.returns-clause-distinct
 returns-clause-distinct g c =
     let inv = c.loop-pass.invariant in
     let left = c.loop-pass.passes in
-    let t = closing g.V.Kept.log c.args.self.table.shared.key c.loop-pass.seat.id c.loop-pass.seat.me c.args.passes.items left.items inv.2.0
+    let t = closing (log_in_box g.V.Kept.log) c.args.self.table.shared.key c.loop-pass.seat.id c.loop-pass.seat.me c.args.passes.items left.items inv.2.0
     _ _ inv.2.1 (sym left.ok.0 ∙ c.in_default-pop.ensures.cases.0) inv.2.2 c.requires.all c.close_with-closed.ensures.values.2 in
-    (closed g.V.Kept.log c.args.self.table.shared.key c.args.passes.items _ c.in-Some-value.value t (c.take-value.ensures.value ∙ ap some c.in-Some-value.is)).3
+    (closed (log_in_box g.V.Kept.log) c.args.self.table.shared.key c.args.passes.items _ c.in-Some-value.value t (c.take-value.ensures.value ∙ ap some c.in-Some-value.is)).3

@@ -1,4 +1,5 @@
 use Rattle.std.proofs.Common.{arith}
+use Rattle.ti_turnstile.specs.Mirrors.Views.{log_in_box}
 use Rattle.ti_turnstile.proofs.Steps.{cuts_from}
 use Rattle.ti_turnstile.proofs.turnstile.Turnstile.split_pass.Goals as goal
 
@@ -7,4 +8,4 @@ split_seat-seat-requires g c =
     let shared = c.args.self.now.table.shared in
     let shape = c.args.self.now.shape in
     let d = c.requires.dealer in
-    (c.requires.table, omega (arith, shape.0), cuts_from g.V.Kept.log shared.key c.args.dealer.now.id d.0 d.1 c.args.dealer.now.me.0 d.2)
+    (c.requires.table, omega (arith, shape.0), cuts_from (log_in_box g.V.Kept.log) shared.key c.args.dealer.now.id d.0 d.1 c.args.dealer.now.me.0 d.2)

@@ -1,6 +1,6 @@
 use Rattle.std.proofs.Common.{◌∙◌, ap, sym}
 use Rattle.ti_store.specs.Stores.{StoreState, log_of}
-use Rattle.ti_turnstile.specs.Turnstiles.{seen_by}
+use Rattle.ti_turnstile.specs.Turnstiles.{seen_by, value_inside}
 use Rattle.ti_runtime.proofs.Tasks.{grown_by_none, seated_inside, seated_seen}
 use Rattle.ti_runtime.proofs.threads.task.Task.halt.Goals as goal
 
@@ -16,7 +16,7 @@ invariant_of-result g c =
     let s = g.J.RunConfigOf.config in
     let me = c.self.inside in
     let inv = c.self.invariant in
-    let found = c.enter-inside.result.value.entries in
+    let found = (value_inside c.enter-inside.result).entries in
     let same = ap (λ (x : StoreState). x.entries) c.halt_for_memory.ensures ∙ ap (λ (x : StoreState). x.entries) c.value.ensures.value in (
       inv.0,
       c.leave_and_wake_all-pass.ensures.number ∙ c.enter-inside.ensures.number ∙ inv.1,

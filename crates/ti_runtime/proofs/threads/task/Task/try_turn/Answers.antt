@@ -1,7 +1,7 @@
 use Rattle.std.proofs.Common.{◌∙◌, ap, sym, subst}
 use Rattle.ti_machine.specs.ProcView.{is_act}
 use Rattle.ti_store.specs.Stores.{StoreState}
-use Rattle.ti_turnstile.specs.Turnstiles.{seen_by}
+use Rattle.ti_turnstile.specs.Turnstiles.{seen_by, value_inside}
 use Rattle.ti_pending.specs.declared.pending.PendingProc.{PendingProc}
 use Rattle.ti_pending.specs.UpToDate.{IsUpToDate}
 use Rattle.ti_pending.specs.Acting.{ReceivesAnswer}
@@ -22,7 +22,7 @@ act-acted-requires-clause-next g c =
     let me = c.self.inside in
     let inv = c.self.invariant in
     let y = subst (λ (x : StoreState). IsUpToDate code s x.entries me.number me.pending) (sym c.value.ensures.value)
-    (seated_inside code s c.enter-inside.result.value.entries _ me.number (seen_by me.pass) me.pending inv.1 c.enter-inside.ensures.legal inv.2) in
+    (seated_inside code s (value_inside c.enter-inside.result).entries _ me.number (seen_by me.pass) me.pending inv.1 c.enter-inside.ensures.legal inv.2) in
     acting code s c.value.result.now.entries me.number me.pending y c.next_is_unique.ensures c.in-Ok.next c.in-Ok.ensures.next c.if-self.false
 
 pub invariant_of-result : goal.invariant_of-result
@@ -33,7 +33,7 @@ invariant_of-result g c =
     let inv = c.self.invariant in
     let store = c.value.result.now in
     let y = subst (λ (x : StoreState). IsUpToDate code s x.entries me.number me.pending) (sym c.value.ensures.value)
-    (seated_inside code s c.enter-inside.result.value.entries _ me.number (seen_by me.pass) me.pending inv.1 c.enter-inside.ensures.legal inv.2) in
+    (seated_inside code s (value_inside c.enter-inside.result).entries _ me.number (seen_by me.pass) me.pending inv.1 c.enter-inside.ensures.legal inv.2) in
     let next = c.in-Ok.next in
     let answer = c.in-Ok-acted.answer in
     let pending = c.resume_with.new.self in
@@ -54,7 +54,7 @@ invariant_of-handle_refusal g c =
     let inv = c.self.invariant in
     let store = c.value.result.now in
     let y = subst (λ (x : StoreState). IsUpToDate code s x.entries me.number me.pending) (sym c.value.ensures.value)
-    (seated_inside code s c.enter-inside.result.value.entries _ me.number (seen_by me.pass) me.pending inv.1 c.enter-inside.ensures.legal inv.2) in
+    (seated_inside code s (value_inside c.enter-inside.result).entries _ me.number (seen_by me.pass) me.pending inv.1 c.enter-inside.ensures.legal inv.2) in
     let next = c.in-Ok.next in
     let after = c.act-acted.new.store in (
       inv.0,
