@@ -162,7 +162,7 @@ impl<V: Kept> Turnstile<V> {
         found == 0
     }
 
-    // Tries to acquire the lock for about as long as another pass stays inside; returns whether the seat is inside now.
+    // Tries to acquire the lock for a while; returns whether the seat is inside now.
     fn spin_acquire(&self, seat: &mut Seat<Option<Box<V>>, SeatView<V::Item>>) -> bool
         requires table { seat.old.table_id ≡ identity_of self.now }
         requires pass { IsPass seat.old.me }
@@ -184,9 +184,8 @@ impl<V: Kept> Turnstile<V> {
     /// The value's log then begins with all that the pass had seen, and the items in it with the pass's number are those that this pass
     /// appended.
     ///
-    /// If others stay inside for a while, it sleeps briefly and tries again, and a plain `leave` doesn't wake it. So one thread enters
-    /// and leaves many times in a row, instead of all threads alternating, which would move the value from one processor's cache to
-    /// another's.
+    /// While another pass is inside, it looks at the lock again and again, at first with short pauses, then letting other threads run.
+    /// After that it sleeps for 50 microseconds at most and begins again. `leave` doesn't wake it; the other two ways to leave may.
     pub fn enter<R: Wait>(&self, rt: &R, pass: Pass<V>) -> Inside<V>
         requires turnstile { turnstile_of pass ≡ identity_of self.now }
         ensures turnstile { turnstile_around result ≡ turnstile_of pass }
