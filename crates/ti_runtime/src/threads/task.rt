@@ -103,14 +103,16 @@ enum LeaveMode {
     NoWake,
     // Letting in one of those who wait to go in: this process may have to wait for them.
     WakeOne,
-    // And waking those who wait for an arrival, or for the end of the run.
+    // And waking those who wait for other processes, or for the end of the run.
     WakeAll,
 }
 
-// How to leave after this action of a process.
-fn leave_mode_after(next: Next) -> LeaveMode {
+// How to leave after this action of a process. `continues` says that the process performed its last action on the same visit of its worker.
+//
+// Who arrives last departs at once, so a departure on the same visit tells the others that all have arrived. One that had to wait was told.
+fn leave_mode_after(next: Next, continues: bool) -> LeaveMode {
     match next {
-        Next::Act(_, Action::Arrive { .. }) => LeaveMode::WakeAll,
+        Next::Act(_, Action::Depart) if continues => LeaveMode::WakeAll,
         Next::Act(_, Action::Depart) => LeaveMode::WakeOne,
         _ => LeaveMode::NoWake,
     }
@@ -194,7 +196,8 @@ impl<J: RunConfigOf + CodeOf> Task<J> {
         }
     }
 
-    /// Runs the process to its next action, passes the gate, and performs that action unless it has to wait.
+    /// Runs the process to its next action, passes the gate, and performs that action unless it has to wait. `continues` says that this worker
+    /// let it perform its last action just before; only speed depends on it.
     pub fn try_turn<R: Wait, G: Gate>(
         self,
         rt: &R,
@@ -202,6 +205,7 @@ impl<J: RunConfigOf + CodeOf> Task<J> {
         code: &Code,
         gate: &G,
         turnstile: &Turnstile<Store<J>>,
+        continues: bool,
     ) -> (Task<J>, TryOutcome)
         requires code { code.now ≡ J.code }
         requires may { RunPremises J.code J.config }
@@ -230,7 +234,7 @@ impl<J: RunConfigOf + CodeOf> Task<J> {
         let acted = act(alloc, next, number, inside.value());
         match acted {
             Ok(answer) => {
-                let pass = leave(turnstile, inside, leave_mode_after(next));
+                let pass = leave(turnstile, inside, leave_mode_after(next, continues));
                 pending.resume_with(next, answer);
                 (
                     Task {
