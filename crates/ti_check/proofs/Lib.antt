@@ -3,6 +3,7 @@ pub mod Copies
 pub mod Ends
 pub mod Grids
 pub mod Heads
+pub mod LoopOnly
 pub mod StmtReport
 pub mod Where
 pub mod Written

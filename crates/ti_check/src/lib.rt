@@ -7,6 +7,7 @@ mod declarations;
 mod error;
 mod methods;
 mod modifiers;
+mod parts;
 mod reports;
 mod right_sides;
 mod scope_pool;
@@ -17,3 +18,5 @@ mod walk;
 
 pub use checking::{check, check_types};
 pub use error::CheckErr;
+pub use parts::{head_refusal, initial_type, is_point_coordinate, statement_refusal};
+pub use targets::is_foreach_variable;

@@ -41,8 +41,8 @@ fn ends_with_return(body: &[Stmt]) -> bool
     is_return(&body[last])
 }
 
-// Y6 if the method has a result and doesn't end with a `return`.
-fn end(method: &Method) -> Option<Refusal>
+/// Y6 if the method has a result and doesn't end with a `return`.
+pub fn end(method: &Method) -> Option<Refusal>
     ensures { result ≡ earliest (end_refusals (numbered_method_of method.now)) }
 {
     let missing = !result_type(method).is_void() && !ends_with_return(&method.body);

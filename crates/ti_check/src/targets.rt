@@ -32,7 +32,7 @@ pub struct TargetTyping<'a> {
 
 /// Whether the target is a foreach variable.
 #[tactic(auto, using(ti_lang::proofs::Lemmas::program_bridges))]
-fn is_foreach_variable(target: &Expr) -> bool
+pub fn is_foreach_variable(target: &Expr) -> bool
     ensures { result ≡ is_foreach_variable (expression_of target.now) }
 {
     match target {
@@ -119,9 +119,9 @@ impl<'a> CheckContext<'a> {
         }
     }
 
-    // Whether the target is a coordinate of a point.
+    /// Whether the target is a coordinate of a point.
     #[tactic(auto, using(ti_lang::proofs::Lemmas::program_bridges))]
-    fn is_coordinate(self, target: &'a Expr, receiver: Option<TyRef<'a>>) -> bool
+    pub fn is_coordinate(self, target: &'a Expr, receiver: Option<TyRef<'a>>) -> bool
         requires { IsReceiver self target.now receiver }
         ensures { result ≡ is_point_coordinate (program_at self.entry) (scope_at self.entry) (expression_of target.now) }
     {
