@@ -26,6 +26,7 @@ use Rattle.ti_parse_expr.specs.declared.error.ParseErr.TheVariants as parser
 use Rattle.ti_explain.specs.declared.reason.RefusalReason.{RefusalReason}
 use Rattle.ti_explain.specs.declared.reason.RefusalReasons.{RefusalReasons}
 use Rattle.ti_explain.specs.Expected.{AreUnexpectedReasons}
+use Rattle.ti_explain.specs.DepthReasons.{AreTooDeepReasons}
 use Rattle.ti_explain.specs.Explanations.{AreProgramReasons, AreTreeReasons, AreTokenReasons, AreReasons}
 use Rattle.ti_explain.specs.Explanations as explained
 use Rattle.ti_explain.specs.Mirrors.Phases.{ProgramExplained, TreeExplained, TokensExplained, TextExplained, IsParsed}
@@ -52,10 +53,14 @@ unexpected_refused : (tokens : List Token) (at : Place) (l : List RefusalReason)
 unexpected_refused tokens at l is =
     subst (λ p. IsGrammarRefusal tokens (Some (Unexpected, p))) is.place (refused is.front is.here is.rest is.is is.misfit)
 
+depth_refused : (tokens : List Token) (at : Place) (l : List RefusalReason) → AreTooDeepReasons tokens at l → IsGrammarRefusal tokens (Some (TooDeep, at))
+depth_refused tokens at l is = subst (λ p. IsGrammarRefusal tokens (Some (TooDeep, p))) is.place (refused is.front is.here is.rest is.is is.misfit)
+
 tokens_refused : (bytes : List ℕ) (tokens : List Token) (r : Refusal) (l : List RefusalReason) → HasTokens bytes tokens → AreTokenReasons tokens r l → IsRefusal bytes r
 tokens_refused bytes tokens r l has (explained.of_unexpected {reasons = reasons} rule is) =
     misfit_refused bytes tokens r Unexpected has rule (unexpected_refused tokens r.place reasons is)
-tokens_refused bytes tokens r l has (explained.of_depth rule is) = misfit_refused bytes tokens r TooDeep has rule is
+tokens_refused bytes tokens r l has (explained.of_depth {reasons = reasons} rule is) =
+    misfit_refused bytes tokens r TooDeep has rule (depth_refused tokens r.place reasons is)
 
 -- ---- a refusal without reasons
 
@@ -110,6 +115,7 @@ unexpected_here tokens r (Unexpected, rule, is) one = is
 unexpected_here tokens r (TooDeep, rule, is) one = absurd (two_rules r.rule one rule)
 
 -- another one is one of a token that is too deep
-pub depth_here : (tokens : List Token) (r : Refusal) → Parsed tokens (Err (parser.Refused r)) → (r.rule ≡ G1 → ⊥) → AreTokenReasons tokens r []
+pub depth_here : (tokens : List Token) (r : Refusal) → Parsed tokens (Err (parser.Refused r)) → (r.rule ≡ G1 → ⊥)
+    → (r.rule ≡ G2) × IsGrammarRefusal tokens (Some (TooDeep, r.place))
 depth_here tokens r (Unexpected, rule, is) never = absurd (never rule)
-depth_here tokens r (TooDeep, rule, is) never = explained.of_depth rule is
+depth_here tokens r (TooDeep, rule, is) never = (rule, is)

@@ -6,6 +6,7 @@ pub mod NameLaws
 pub mod NamedLaws
 pub mod PlainLaws
 pub mod ReasonLaws
+pub mod SingleLaws
 pub mod SpanLaws
 pub mod SpellingLaws
 pub mod TrialLaws

@@ -107,7 +107,7 @@ or_false : (a : Bool) → a || false ≡ a
 or_false true = refl
 or_false false = refl
 
-either : {A : Type 0} (a b : Option A) → is_some (option_or a b) ≡ is_some a || is_some b
+pub either : {A : Type 0} (a b : Option A) → is_some (option_or a b) ≡ is_some a || is_some b
 either None b = refl
 either (Some x) b = refl
 

@@ -243,25 +243,25 @@ ended_then front at tokens b before (Err e) is_front placed same begins is = is
 -- ---- the token that is refused
 
 -- what is known of the token that is refused
-pub record Refused (tokens : List Token) (at : Place) : Type 0 where
+pub record Refused (misfit : Misfit) (tokens : List Token) (at : Place) : Type 0 where
   pub front : List Token
   pub here : Token
   pub rest : List Token
   pub is : tokens ≡ front ++ here ∷ rest
-  pub shows : ShowsMisfit Unexpected front here
+  pub shows : ShowsMisfit misfit front here
   pub at_place : here.place ≡ at
 
-pub refused_there : (tokens : List Token) (at : Place) → IsGrammarRefusal tokens (Some (Unexpected, at)) → Refused tokens at
-refused_there tokens at is = of_parts (refused_parts tokens Unexpected at is)
+pub refused_there : (misfit : Misfit) (tokens : List Token) (at : Place) → IsGrammarRefusal tokens (Some (misfit, at)) → Refused misfit tokens at
+refused_there misfit tokens at is = of_parts (refused_parts tokens misfit at is)
   where
-    of_parts : (front : List Token) × (t : Token) × (rest : List Token) × (tokens ≡ front ++ t ∷ rest) × ShowsMisfit Unexpected front t × (t.place ≡ at) → Refused tokens at
+    of_parts : (front : List Token) × (t : Token) × (rest : List Token) × (tokens ≡ front ++ t ∷ rest) × ShowsMisfit misfit front t × (t.place ≡ at) → Refused misfit tokens at
     of_parts (front, t, rest, same, shows, place) = record { front = front; here = t; rest = rest; is = same; shows = shows; at_place = place }
 
-there : (tokens : List Token) (at : Place) (r : Refused tokens at) → slice_get tokens (length r.front) ≡ Some r.here
-there tokens at r = ap (λ l. slice_get l (length r.front)) r.is ∙ seam r.front r.rest r.here
+there : (misfit : Misfit) (tokens : List Token) (at : Place) (r : Refused misfit tokens at) → slice_get tokens (length r.front) ≡ Some r.here
+there misfit tokens at r = ap (λ l. slice_get l (length r.front)) r.is ∙ seam r.front r.rest r.here
 
-pub not_nothing : (tokens : List Token) (at : Place) → Refused tokens at → IsFirstAt tokens at None → ⊥
-not_nothing tokens at r never = never (length r.front) r.here (there tokens at r) r.at_place
+pub not_nothing : (misfit : Misfit) (tokens : List Token) (at : Place) → Refused misfit tokens at → IsFirstAt tokens at None → ⊥
+not_nothing misfit tokens at r never = never (length r.front) r.here (there misfit tokens at r) r.at_place
 
 -- ---- the positions of tokens
 
@@ -300,28 +300,32 @@ one_there tokens order i j t u first second same =
           ]
     ]
 
-is_shallow : (front : List Token) (t : Token) → ShowsMisfit Unexpected front t → IsShallow front
-is_shallow front t (unexpected some none shallow) = shallow
+is_shallow : (misfit : Misfit) (front : List Token) (t : Token) → ShowsMisfit misfit front t → IsShallow front
+is_shallow misfit front t (unexpected some none shallow) = shallow
+is_shallow misfit front t (too_deep some deep shallow) = shallow
 
 -- what is known of the tokens before the one that is refused
-pub record Before (tokens : List Token) (at : Place) (index : ℕ) (r : Refused tokens at) : Type 0 where
+pub record Before (misfit : Misfit) (tokens : List Token) (at : Place) (index : ℕ) (r : Refused misfit tokens at) : Type 0 where
   pub within : index ≤ length tokens
   pub is_front : IsFront (take index tokens)
   pub placed : at ≡ zero_place → ⊥
   pub same : take index tokens ≡ r.front
+  pub there : slice_get tokens index ≡ Some r.here
 
-pub before : (tokens : List Token) (at : Place) (index : ℕ) (r : Refused tokens at) → AreInOrder tokens → IsFirstAt tokens at (Some index) → Before tokens at index r
-before tokens at index r order (t, here, place) =
-    let is : length r.front ≡ index = one_there tokens order (length r.front) index r.here t (there tokens at r) here (r.at_place ∙ sym place) in
+pub before : (misfit : Misfit) (tokens : List Token) (at : Place) (index : ℕ) (r : Refused misfit tokens at) → AreInOrder tokens
+    → IsFirstAt tokens at (Some index) → Before misfit tokens at index r
+before misfit tokens at index r order (t, here, place) =
+    let is : length r.front ≡ index = one_there tokens order (length r.front) index r.here t (there misfit tokens at r) here (r.at_place ∙ sym place) in
     let same : take index tokens ≡ r.front = ap (λ n. take n tokens) (sym is) ∙ ap (take (length r.front)) r.is ∙ take-append_seam r.front (r.here ∷ r.rest) in
     record {
-      within = omega (arith, slice_get_within tokens (length r.front) r.here (there tokens at r), is);
+      within = omega (arith, slice_get_within tokens (length r.front) r.here (there misfit tokens at r), is);
       is_front = subst IsFront (sym same) (record {
-        shallow = is_shallow r.front r.here r.shows;
+        shallow = is_shallow misfit r.front r.here r.shows;
         somewhere = λ k t is. order.somewhere k t (ap (λ l. slice_get l k) r.is ∙ in_first r.front (r.here ∷ r.rest) k t is);
       });
-      placed = λ nowhere. order.somewhere (length r.front) r.here (there tokens at r) (r.at_place ∙ nowhere);
+      placed = λ nowhere. order.somewhere (length r.front) r.here (there misfit tokens at r) (r.at_place ∙ nowhere);
       same = same;
+      there = ap (slice_get tokens) (sym is) ∙ there misfit tokens at r;
     }
   where
     in_first : (xs ys : List Token) (k : ℕ) (t : Token) → slice_get xs k ≡ Some t → slice_get (xs ++ ys) k ≡ Some t
@@ -331,18 +335,18 @@ before tokens at index r order (t, here, place) =
         (sym (get_or_append_left xs ys t k lt ∙ get_or_from_slice_get xs k t t is))
 
 -- the same, from what is known of the position and of the number
-pub known_before : (tokens : List Token) (at : Place) (index : ℕ) → AreTokens tokens
+pub known_before : (misfit : Misfit) (tokens : List Token) (at : Place) (index : ℕ) → AreTokens tokens
     → ((text : List ℕ) (list : List Token) → IsTokenized text list → (i : ℕ) (t : Token) → slice_get list i ≡ Some t → (k : ℕ) × (k ≤ length text) × (t.place ≡ place_of text k))
     → ((text : List ℕ) (list : List Token) → IsTokenized text list → (i j : ℕ) (t u : Token) → i < j → slice_get list i ≡ Some t → slice_get list j ≡ Some u
     → place_before t.place u.place ≡ true)
-    → IsGrammarRefusal tokens (Some (Unexpected, at)) → IsFirstAt tokens at (Some index) → (r : Refused tokens at) × Before tokens at index r
-known_before tokens at index (text, has) placed rise refusal first =
-    let r = refused_there tokens at refusal in
-    (r, before tokens at index r (in_order text tokens (placed text tokens has.tokenized) (rise text tokens has.tokenized)) first)
+    → IsGrammarRefusal tokens (Some (misfit, at)) → IsFirstAt tokens at (Some index) → (r : Refused misfit tokens at) × Before misfit tokens at index r
+known_before misfit tokens at index (text, has) placed rise refusal first =
+    let r = refused_there misfit tokens at refusal in
+    (r, before misfit tokens at index r (in_order text tokens (placed text tokens has.tokenized) (rise text tokens has.tokenized)) first)
 
 -- all texts and the end
 pub tried_then_all : (tokens : List Token) (at : Place) (index : ℕ) (texts : List (List ℕ)) (found : List RefusalReason) (o : Result (Vec RefusalReason Global) Memory)
-    (r : Refused tokens at) → Before tokens at index r → texts ≡ token_texts → AreExpected (take index tokens) at texts found
+    (r : Refused Unexpected tokens at) → Before Unexpected tokens at index r → texts ≡ token_texts → AreExpected (take index tokens) at texts found
     → IfOk o (λ v. TriesEnd (take index tokens) at found v.items) → IfOk o (λ v. AreUnexpectedReasons tokens at v.items)
 tried_then_all tokens at index texts found (Ok v) r b is expected (end, end_expected, all) = record {
   front = r.front;

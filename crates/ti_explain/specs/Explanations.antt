@@ -1,10 +1,9 @@
 -- What an explanation of a text is: its refusal, with the reasons for it. Each phase that refuses says which reasons there are; so far,
--- there are reasons for an unexpected token and for the rules of names and of single values, and none for the others.
+-- there are reasons for the rules of the grammar, of names and of single values, and none for the others.
 use Rattle.std.specs.Prelude.{◌≡◌, ℕ, List, [], map, Contains, Option, Some, None, Result, Ok, Err}
 use Rattle.ti_base.specs.declared.memory.Memory.{Memory}
 use Rattle.ti_syntax.specs.declared.token.Token.{Token}
 use Rattle.ti_syntax.specs.Trees.Classes.{TextTree}
-use Rattle.ti_syntax.specs.Spelling.{TooDeep, IsGrammarRefusal}
 use Rattle.ti_lang.specs.Program.Classes.{ProgramView}
 use Rattle.ti_lang.specs.Numbering.{Numbers}
 use Rattle.ti_rules.specs.declared.rule.Rule.TheVariants.{G1, G2}
@@ -18,6 +17,7 @@ use Rattle.ti_rules.specs.RefusalOf.{HasNone, HasTokens, HasTree, IsRefusal}
 use Rattle.ti_explain.specs.declared.reason.RefusalReason.{RefusalReason}
 use Rattle.ti_explain.specs.declared.reason.Explanation.{Explanation}
 use Rattle.ti_explain.specs.Expected.{AreUnexpectedReasons}
+use Rattle.ti_explain.specs.DepthReasons.{AreTooDeepReasons}
 use Rattle.ti_explain.specs.RefusedNames.{refused_name_reasons}
 use Rattle.ti_explain.specs.ReasonSpans.{without_len, HasLengths}
 use Rattle.ti_explain.specs.SingleReasons.{AreSingleReasons}
@@ -38,7 +38,8 @@ pub data AreTreeReasons (tree : TextTree) (refusal : Refusal) : List RefusalReas
 pub data AreTokenReasons (tokens : List Token) (refusal : Refusal) : List RefusalReason → Type 0 where
   of_unexpected : {reasons : List RefusalReason} → refusal.rule ≡ G1 → AreUnexpectedReasons tokens refusal.place reasons
       → AreTokenReasons tokens refusal reasons
-  of_depth : refusal.rule ≡ G2 → IsGrammarRefusal tokens (Some (TooDeep, refusal.place)) → AreTokenReasons tokens refusal []
+  of_depth : {reasons : List RefusalReason} → refusal.rule ≡ G2 → AreTooDeepReasons tokens refusal.place reasons
+      → AreTokenReasons tokens refusal reasons
 
 -- the reasons for the refusal of a text
 pub data AreReasons (text : List ℕ) (refusal : Refusal) : List RefusalReason → Type 0 where

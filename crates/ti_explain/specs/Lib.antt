@@ -1,5 +1,6 @@
 pub mod Declarations
 pub mod DeclaredNames
+pub mod DepthReasons
 pub mod Expected
 pub mod Explanations
 pub mod FirstEffects

@@ -1,5 +1,6 @@
 -- The reasons for the refusals by the rules of single values: of a statement, and of a method.
-use Rattle.std.specs.Prelude.{false, if◌then◌else◌, List, [], ◌∷◌, ◌++◌, Contains, Option, Some, None, option_and_then}
+use Rattle.std.specs.Prelude.{Bool, true, false, if◌then◌else◌, List, [], ◌∷◌, ◌++◌, Contains, Option, Some, None, option_and_then}
+use Rattle.std.specs.List.{list_any}
 use Rattle.std.specs.Option.{option_or, unwrap_or}
 use Rattle.ti_base.specs.declared.place.Place.{Place}
 use Rattle.ti_base.specs.Places.{same_place}
@@ -17,10 +18,11 @@ use Rattle.ti_rules.specs.SingleRules.{effect_refusals, result_refusals, standin
 use Rattle.ti_explain.specs.declared.reason.PlainPart.{PlainPart}
 use Rattle.ti_explain.specs.declared.reason.EffectAt.{EffectAt}
 use Rattle.ti_explain.specs.declared.reason.RefusalReason.{RefusalReason}
+use Rattle.ti_explain.specs.declared.reason.ReasonKind.{ReasonKind}
 use Rattle.ti_explain.specs.declared.reason.ReasonKind.TheVariants.{Plain, PlainDeclaration, Effect, PlainMethod}
 use Rattle.ti_explain.specs.Declarations.{declaration_of}
 use Rattle.ti_explain.specs.PlainParts.{plain_part, plain_whole, plain_initial}
-use Rattle.ti_explain.specs.FirstEffects.{first_effect, first_effect_of_all, loop_effect}
+use Rattle.ti_explain.specs.FirstEffects.{first_effect, first_effect_of_maybe, first_effect_of_all, loop_effect}
 
 -- ---- what has to be single
 
@@ -93,10 +95,12 @@ module _ (p : ProgramView) (around : StmtContext) where
   plain_for S5 at x = plain_argument at (arguments_in x)
   plain_for rule at x = option_and_then part_here (single_operand x)
 
-  -- the effect for which all processes have to take the same way through the statement
+  -- the effect for which all processes have to take the same way through the statement; a jump out of a loop is one in its update
   abbrev pub effect_inside : NumberedStm → Option EffectAt
   effect_inside (st.If at c a) = first_effect p around.method (unwrap_or around.jump_has false) (st.If at c a)
   effect_inside (st.IfElse at c a b) = first_effect p around.method (unwrap_or around.jump_has false) (st.IfElse at c a b)
+  effect_inside (st.For at first c update body) =
+      option_or (loop_effect p around.method (st.For at first c update body)) (first_effect_of_maybe p around.method true update)
   effect_inside x = loop_effect p around.method x
 
 -- ---- reasons
@@ -142,3 +146,13 @@ pub data AreSingleReasons (p : ProgramView) (refusal : Refusal) : List RefusalRe
       → AreSingleReasons p refusal (statement_reasons p x refusal)
   of_head : {m : NumberedMethod} → Contains p.methods m → Contains (single_head_refusals p m) refusal
       → AreSingleReasons p refusal (head_reasons p m refusal.rule)
+
+-- a reason that names a cause: a plain part, or a global effect
+abbrev pub is_cause : ReasonKind → Bool
+is_cause (Plain why) = true
+is_cause (Effect what) = true
+is_cause kind = false
+
+-- one of the reasons names a cause
+abbrev pub names_cause : List RefusalReason → Bool
+names_cause reasons = list_any (λ (r : RefusalReason). is_cause r.kind) reasons

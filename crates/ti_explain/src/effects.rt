@@ -35,8 +35,8 @@ fn effect_if(has: bool, place: Place, effect: GlobalEffect) -> Option<EffectAt>
     if has { effect_at(place, effect) } else { None }
 }
 
-// The first one, if there is one, else the second.
-fn first_of(first: Option<EffectAt>, second: Option<EffectAt>) -> Option<EffectAt>
+/// The first one, if there is one, else the second.
+pub fn first_of(first: Option<EffectAt>, second: Option<EffectAt>) -> Option<EffectAt>
     ensures { result ≡ option_or first second }
 {
     match first {
@@ -139,9 +139,9 @@ pub fn first_effect_of_all(
     None
 }
 
-// The first effect of an optional statement.
+/// The first effect of an optional statement.
 #[cycle(first)]
-fn first_effect_of_maybe(
+pub fn first_effect_of_maybe(
     site: SingleContext<'_>,
     jump_has: bool,
     stmt: &Option<Box<Stmt>>,

@@ -308,8 +308,8 @@ fn try_end(
 
 // ---- the place of a token
 
-// The number of the first token at this position; None if there is none.
-fn first_at(tokens: &[Token], place: Place) -> Option<usize>
+/// The index of the first token at this position; None if there is none.
+pub fn first_at(tokens: &[Token], place: Place) -> Option<usize>
     ensures { IsFirstAt tokens.now place result }
 {
     for i in 0..tokens.len() {

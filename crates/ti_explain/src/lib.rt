@@ -3,6 +3,7 @@
 
 mod declarations;
 mod declared_names;
+mod depth;
 mod effects;
 mod expected;
 mod laws;
@@ -21,7 +22,9 @@ mod search;
 mod spans;
 mod statement;
 
-pub use laws::{effects_are_named, main_is_explained, plain_parts_are_named};
+pub use laws::{
+    effects_are_named, main_is_explained, plain_parts_are_named, singles_are_explained,
+};
 pub use name_reason::{MainDefect, NameReason, SoughtName};
 pub use phases::explain;
 pub use reason::{

@@ -8,6 +8,7 @@ ghost use Rattle.ti_explain.specs.Explanations.{Explains};
 ghost use Rattle.ti_explain.specs.Mirrors.Phases.{ProgramExplained, TreeExplained, TokensExplained, TextExplained};
 ghost use Rattle.ti_explain.specs.Mirrors.Trials.{AreTokens};
 
+use crate::depth::too_deep_reasons;
 use crate::expected::expected_tokens;
 use crate::methods::single_reasons;
 use crate::reason::{Explanation, RefusalReasons};
@@ -90,7 +91,10 @@ fn explain_tokens(alloc: Global, tokens: Vec<Token>) -> Result<Option<RefusalRea
                 let reasons = expected_tokens(alloc, tokens, refusal.place)?;
                 Ok(Some(RefusalReasons { refusal, reasons }))
             }
-            _ => Ok(Some(unexplained(alloc, refusal))),
+            _ => {
+                let reasons = too_deep_reasons(alloc, &tokens, refusal.place)?;
+                Ok(Some(RefusalReasons { refusal, reasons }))
+            }
         },
         Err(ParseErr::Memory) => Err(Memory),
     }

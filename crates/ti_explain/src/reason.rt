@@ -84,6 +84,10 @@ pub enum ReasonKind {
     Expected(Spelled),
     /// The source could end here.
     ExpectedEnd,
+    /// The nest of statements that is too deep begins with this statement, directly in the body of a method.
+    NestBegins,
+    /// The expression that is too heavy has its first bracket, dot or operator here.
+    WeightBegins,
     /// This part of a value, a condition or a domain that has to be single is plain.
     Plain(PlainCause),
     /// The variable that is this part is declared here, without `single`.

@@ -10,7 +10,7 @@ ghost use Rattle.ti_rules.specs.StmtInContext.{stands};
 ghost use Rattle.ti_explain.specs.SingleReasons.{root_of_whole, root_of_initial, single_operand, arguments_of_whole, arguments_of_initial, arguments_in, part_here, plain_value, plain_argument, plain_for, effect_inside, plain_reason, plain_declaration, declaration_reason, effect_reason, statement_reasons};
 
 use crate::declarations::declaration_of;
-use crate::effects::{first_effect, loop_effect};
+use crate::effects::{first_effect, first_effect_of_maybe, first_of, loop_effect};
 use crate::plain::{plain_initial, plain_part, plain_whole};
 use crate::reason::{EffectAt, PlainPart, ReasonKind, RefusalReason};
 use std::alloc::Global;
@@ -223,7 +223,7 @@ fn or_false(flag: Option<bool>) -> bool
     }
 }
 
-// The effect for which all processes have to take the same way through the statement.
+// The effect for which all processes have to take the same way through the statement; a jump out of a loop is one in its update.
 #[tactic(auto, using(ti_lang::proofs::Lemmas::program_bridges))]
 fn effect_inside(site: SingleContext<'_>, stmt: &Stmt) -> Option<EffectAt>
     ensures { result ≡ effect_inside (program_at site.entry) (around_of site.entry) (statement_of stmt.now) }
@@ -234,6 +234,10 @@ fn effect_inside(site: SingleContext<'_>, stmt: &Stmt) -> Option<EffectAt>
             Some(_) => first_effect(site, or_false(site.jump_has), stmt),
             None => first_effect(site, or_false(site.jump_has), stmt),
         },
+        Stmt::For { update, .. } => {
+            let found = loop_effect(site, stmt);
+            first_of(found, first_effect_of_maybe(site, true, update))
+        }
         _ => loop_effect(site, stmt),
     }
 }

@@ -21,8 +21,9 @@ pub fn primary_label(rule: Rule) -> &'static str
         Rule::X4 => "this number is too large, or begins with a 0",
         Rule::X5 => "a source has at most 1048576 bytes",
         Rule::G1 => "no program has this token after those before it",
-        Rule::G2 =>
-            "more than 64 levels of statements, or more than 256 operators in an expression",
+        Rule::G2 => {
+            "above 64 nested statements, or 256 brackets, dots and operators in an expression"
+        }
         Rule::N1 => "nothing of this name can be used here",
         Rule::N2 => "this name is declared before",
         Rule::N3 => "this is not the form of `main`",
@@ -132,6 +133,10 @@ pub fn reason_label(alloc: Global, kind: &ReasonKind, token: &str) -> Result<Str
             label.push_str(DECLARED_PLAIN)?;
         }
         ReasonKind::Expected(_) | ReasonKind::ExpectedEnd => {}
+        ReasonKind::NestBegins => label.push_str("the outermost of the nested statements")?,
+        ReasonKind::WeightBegins => {
+            label.push_str("the first bracket, dot or operator of the expression")?
+        }
         ReasonKind::PlainMethod => {
             label.push('`')?;
             label.push_str(token)?;
