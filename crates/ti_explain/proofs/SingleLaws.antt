@@ -116,11 +116,13 @@ module _ (p : ProgramView) (around : StmtContext) where
     where
       first : (w.ty.is_single && is_plain_part p around e ≡ true) × (record { rule = S5; place = place_of_numbered e } ≡ r)
           → (r.rule ≡ S5) × (is_none (plain_argument p around r.place (x.MoreExp e rest)) ≡ false)
-      first (broken, is) =
-          (sym (ap (λ (u : Refusal). u.rule) is),
-           here r.place e (plain_argument p around r.place rest)
-               (sym (ap (λ (u : Refusal). same_place u.place (place_of_numbered e)) is) ∙ same_self (place_of_numbered e))
-               (right_of w.ty.is_single (is_plain_part p around e) broken))
+      first (broken, is) = (
+        sym (ap (λ (u : Refusal). u.rule) is),
+        here r.place e (plain_argument p around r.place rest)
+            (sym (ap (λ (u : Refusal). same_place u.place (place_of_numbered e)) is) ∙ same_self (place_of_numbered e))
+            (right_of w.ty.is_single (is_plain_part p around e) broken),
+      )
+
       second : (r.rule ≡ S5) × (is_none (plain_argument p around r.place rest) ≡ false)
           → (r.rule ≡ S5) × (is_none (plain_argument p around r.place (x.MoreExp e rest)) ≡ false)
       second (rule, some) = (rule, none_second (if same_place r.place (place_of_numbered e) then part_here p around e else None) _ some)
@@ -215,9 +217,9 @@ module _ (p : ProgramView) (around : StmtContext) where
       (effect_inside p around (st.For at init o update body))
       (either (loop_effect p around.method (st.For at init o update body)) (first_effect_of_maybe p around.method true update)
       ∙ ap (λ z. is_some (loop_effect p around.method (st.For at init o update body)) || z)
-          (maybe_named p around.method true update
-          ∙ ap (λ z. ((doings_of_maybe p (this_of around.method) update).acts || ((doings_of_maybe p (this_of around.method) update).returns && return_acts p around.method)) || (z && true)) jumps
-          ∙ or_true _)
+      (maybe_named p around.method true update
+      ∙ ap (λ z. ((doings_of_maybe p (this_of around.method) update).acts || ((doings_of_maybe p (this_of around.method) update).returns && return_acts p around.method)) || (z && true)) jumps
+      ∙ or_true _)
       ∙ or_true (is_some (loop_effect p around.method (st.For at init o update body))))
 
   statement_caused : (s : NumberedStm) (r : Refusal) → Contains (single_refusals_at p around s) r → IsCaused s r
@@ -245,7 +247,7 @@ module _ (p : ProgramView) (around : StmtContext) where
       by_rule (st.While at cond body) r S2 at (loop_acts p around.method st.NoStm body) (is_plain_part p around cond) among (part_plain cond)
   statement_caused (st.For at init o update body) r among =
       elim (Contains-append_cases (refused_if (loop_acts p around.method update body && is_plain_condition p around o) S2 at)
-          (refused_if (doings_of_maybe p (this_of around.method) update).jumps S2 at) r among) [
+      (refused_if (doings_of_maybe p (this_of around.method) update).jumps S2 at) r among) [
         | inl own ↦ by_rule (st.For at init o update body) r S2 at (loop_acts p around.method update body) (is_plain_condition p around o) own (condition_plain o)
         | inr jump ↦ by_jump at init o update body r (of_refused (doings_of_maybe p (this_of around.method) update).jumps S2 at r jump).1
       ]
@@ -286,8 +288,8 @@ head_caused p m r among not_nine =
     by (broken, is) =
         ap (λ (u : Refusal). names_cause (head_reasons p m u.rule)) (sym is)
         ∙ an_effect (first_effect_of_all p m false (numbered_stms m.body))
-            (effects_named p m false (numbered_stms m.body)
-            ∙ left_of (has_global_effects (return_acts p m) false (doings_of_method p m)) (not m.is_single) broken)
+        (effects_named p m false (numbered_stms m.body)
+        ∙ left_of (has_global_effects (return_acts p m) false (doings_of_method p m)) (not m.is_single) broken)
 
 -- ---- programs
 

@@ -11,16 +11,6 @@ use ti_base::Place;
 use ti_lang::program::{Method, Param, Params, Stmt};
 use ti_single::{deref_stmt, deref_stmts};
 
-// The first one, if there is one, else the second.
-fn first_of(first: Option<Place>, second: Option<Place>) -> Option<Place>
-    ensures { result ≡ option_or first second }
-{
-    match first {
-        Some(place) => Some(place),
-        None => second,
-    }
-}
-
 // The position of the parameter of this number.
 fn param_place(params: &[Param], number: usize) -> Option<Place>
     ensures { result ≡ option_map (λ (p : NumberedParam). p.place) (slice_get (map numbered_param_of params.now) number) }
@@ -93,14 +83,14 @@ fn declared_in(number: u32, stmt: &Stmt) -> Option<Place>
         } => {
             let then = declared_in(number, deref_stmt(then));
             match otherwise {
-                Some(otherwise) => first_of(then, declared_in(number, deref_stmt(otherwise))),
+                Some(otherwise) => then.or(declared_in(number, deref_stmt(otherwise))),
                 None => then,
             }
         }
         Stmt::While { body, .. } => declared_in(number, deref_stmt(body)),
         Stmt::For { first, body, .. } => {
             let first = declared_in_maybe(number, first);
-            first_of(first, declared_in(number, deref_stmt(body)))
+            first.or(declared_in(number, deref_stmt(body)))
         }
         Stmt::Foreach { body, .. } => declared_in(number, deref_stmt(body)),
         Stmt::Empty
@@ -121,5 +111,5 @@ pub fn declaration_of(method: &Method, number: u32) -> Option<Place>
     ensures { result ≡ declaration_of (numbered_method_of method.now) number }
 {
     let parameter = parameter_place(&method.params, number);
-    first_of(parameter, declared_among(number, deref_stmts(&method.body)))
+    parameter.or(declared_among(number, deref_stmts(&method.body)))
 }

@@ -5,11 +5,12 @@ ghost use Rattle.ti_lang.specs.Program.Classes.{NumberedMethod};
 ghost use Rattle.ti_lang.specs.Program.Scope.{this_of};
 ghost use Rattle.ti_lang.specs.Program.Statements.{numbered_stms};
 ghost use Rattle.ti_lang.specs.Program.Views.{program_of, expression_of, initial_of, statement_of, numbered_method_of};
-ghost use Rattle.ti_lang.specs.Typing.Effects.{is_collective, is_collective_call, return_acts, jump_acts};
+ghost use Rattle.ti_lang.specs.Typing.Effects.{is_collective, is_collective_call, is_single_target, return_acts, jump_acts};
 ghost use Rattle.ti_lang.specs.Typing.TyRef.{built_in_of};
 ghost use Rattle.ti_single.specs.Contexts.{program_at, around_of};
 ghost use Rattle.ti_single.specs.EffectsAt.{effects_in_loop};
 ghost use Rattle.ti_single.specs.Mirrors.Maybe.{maybe_in};
+ghost use Rattle.ti_explain.specs.declared.reason.GlobalEffect.TheVariants as effect;
 ghost use Rattle.ti_explain.specs.FirstEffects.{effect_at, effect_if, calls_single, call_effect, initial_effect, loop_effect, first_effect, first_effect_of_maybe, first_effect_of_all};
 
 use crate::reason::{EffectAt, GlobalEffect};
@@ -35,14 +36,11 @@ fn effect_if(has: bool, place: Place, effect: GlobalEffect) -> Option<EffectAt>
     if has { effect_at(place, effect) } else { None }
 }
 
-/// The first one, if there is one, else the second.
-pub fn first_of(first: Option<EffectAt>, second: Option<EffectAt>) -> Option<EffectAt>
-    ensures { result ≡ option_or first second }
+// The effect of a statement that changes this target.
+fn change_effect(place: Place, target: &Expr) -> Option<EffectAt>
+    ensures { result ≡ effect_if (is_single_target (expression_of target.now)) place effect.ChangesSingle }
 {
-    match first {
-        Some(effect) => Some(effect),
-        None => second,
-    }
+    effect_if(is_single_target(target), place, GlobalEffect::ChangesSingle)
 }
 
 fn is_collective(built_in: Option<BuiltIn>) -> bool
@@ -165,7 +163,7 @@ pub fn loop_effect(site: SingleContext<'_>, stmt: &Stmt) -> Option<EffectAt>
         Stmt::While { body, .. } => first_effect(site, jump_has, deref_stmt(body)),
         Stmt::For { update, body, .. } => {
             let body = first_effect(site, jump_has, deref_stmt(body));
-            first_of(body, first_effect_of_maybe(site, jump_has, update))
+            body.or(first_effect_of_maybe(site, jump_has, update))
         }
         Stmt::Foreach { body, .. } => first_effect(site, jump_has, deref_stmt(body)),
         _ => None,
@@ -185,42 +183,23 @@ pub fn first_effect(site: SingleContext<'_>, jump_has: bool, stmt: &Stmt) -> Opt
             ty,
             value,
             ..
-        } => first_of(
-            initial_effect(site, deref_init(value)),
-            effect_if(ty.single, *place, GlobalEffect::DeclaresSingle),
-        ),
+        } => initial_effect(site, deref_init(value)).or(effect_if(
+            ty.single,
+            *place,
+            GlobalEffect::DeclaresSingle,
+        )),
         Stmt::Assign {
             place,
             target,
             value,
-        } => first_of(
-            initial_effect(site, deref_init(value)),
-            effect_if(
-                is_single_target(target),
-                *place,
-                GlobalEffect::ChangesSingle,
-            ),
-        ),
+        } => initial_effect(site, deref_init(value)).or(change_effect(*place, target)),
         Stmt::Update {
             place,
             target,
             value,
             ..
-        } => first_of(
-            call_effect(site, value),
-            effect_if(
-                is_single_target(target),
-                *place,
-                GlobalEffect::ChangesSingle,
-            ),
-        ),
-        Stmt::Step { place, target, .. } => {
-            effect_if(
-                is_single_target(target),
-                *place,
-                GlobalEffect::ChangesSingle,
-            )
-        }
+        } => call_effect(site, value).or(change_effect(*place, target)),
+        Stmt::Step { place, target, .. } => { change_effect(*place, target) }
         Stmt::Call(e) => call_effect(site, e),
         Stmt::Barrier(place) => effect_at(*place, GlobalEffect::Barrier),
         Stmt::Block(body) => first_effect_of_all(site, jump_has, deref_stmts(body)),
@@ -231,16 +210,14 @@ pub fn first_effect(site: SingleContext<'_>, jump_has: bool, stmt: &Stmt) -> Opt
         } => {
             let then = first_effect(site, jump_has, deref_stmt(then));
             match otherwise {
-                Some(otherwise) => {
-                    first_of(then, first_effect(site, jump_has, deref_stmt(otherwise)))
-                }
+                Some(otherwise) => { then.or(first_effect(site, jump_has, deref_stmt(otherwise))) }
                 None => then,
             }
         }
         Stmt::While { .. } => loop_effect(site, stmt),
         Stmt::For { first, .. } => {
             let first = first_effect_of_maybe(site, jump_has, first);
-            first_of(first, loop_effect(site, stmt))
+            first.or(loop_effect(site, stmt))
         }
         Stmt::Foreach { .. } => loop_effect(site, stmt),
         Stmt::Break(place) => effect_if(jump_has, *place, GlobalEffect::Jump),

@@ -87,16 +87,6 @@ fn tells_of_domain(built_in: Option<BuiltIn>) -> bool
     )
 }
 
-// The first one, if there is one, else the second.
-fn first_of(first: Option<PlainPart>, second: Option<PlainPart>) -> Option<PlainPart>
-    ensures { result ≡ option_or first second }
-{
-    match first {
-        Some(part) => Some(part),
-        None => second,
-    }
-}
-
 // The part if the test holds, else the expression itself for this cause.
 fn part_if(
     test: bool,
@@ -130,14 +120,13 @@ fn plain_in_range(program: &Program, scope: &Scope, range: &Range) -> Option<Pla
         (bound_of range.now) }
 {
     match range {
-        Range::Plain { low, high } => first_of(
-            plain_part(program, scope, low),
-            plain_part(program, scope, high),
-        ),
+        Range::Plain { low, high } => plain_part(program, scope, low).or(plain_part(
+            program, scope, high,
+        )),
         Range::Stepped { low, high, step } => {
             let low = plain_part(program, scope, low);
             let high = plain_part(program, scope, high);
-            first_of(low, first_of(high, plain_part(program, scope, step)))
+            low.or(high.or(plain_part(program, scope, step)))
         }
     }
 }
@@ -173,7 +162,7 @@ pub fn plain_part(program: &Program, scope: &Scope, expr: &Expr) -> Option<Plain
         Expr::Unary { operand, .. } => plain_part(program, scope, deref_expr(operand)),
         Expr::Binary { left, right, .. } => {
             let left = plain_part(program, scope, deref_expr(left));
-            first_of(left, plain_part(program, scope, deref_expr(right)))
+            left.or(plain_part(program, scope, deref_expr(right)))
         }
         Expr::Cast { place, to, operand } => {
             let to_local = TyRef::of(&deref_type(to).ty, false).is_local();
@@ -188,7 +177,7 @@ pub fn plain_part(program: &Program, scope: &Scope, expr: &Expr) -> Option<Plain
             let receiver = deref_expr(receiver);
             let of_point = is_point(syntactic_type(&program.parts, scope.this, receiver));
             let part = plain_part(program, scope, receiver);
-            let parts = first_of(part, plain_among(program, scope, deref_exprs(indices)));
+            let parts = part.or(plain_among(program, scope, deref_exprs(indices)));
             part_if(of_point, parts, *place, PlainCause::Element)
         }
         Expr::Member {
@@ -200,7 +189,7 @@ pub fn plain_part(program: &Program, scope: &Scope, expr: &Expr) -> Option<Plain
             let receiver = deref_expr(receiver);
             let tells = tells_of_domain(member_called(&program.parts, scope.this, receiver, *name));
             let part = plain_part(program, scope, receiver);
-            let parts = first_of(part, plain_among(program, scope, deref_exprs(args)));
+            let parts = part.or(plain_among(program, scope, deref_exprs(args)));
             part_if(tells, parts, *place, PlainCause::Member)
         }
         Expr::Null(place) => plain_at(*place, PlainCause::Null),

@@ -19,16 +19,6 @@ use std::alloc::Global;
 use ti_base::{Memory, Place};
 use ti_syntax::tree::{Class, Member, Method, ParamDecl, Params, Stmt, Tree};
 
-// The first one, if there is one, else the second.
-fn first_of(first: Option<Place>, second: Option<Place>) -> Option<Place>
-    ensures { result ≡ option_or first second }
-{
-    match first {
-        Some(place) => Some(place),
-        None => second,
-    }
-}
-
 // ---- classes and members
 
 // The first declaration of this name.
@@ -259,9 +249,7 @@ fn outer_in(
         } => {
             let then = outer_in(alloc, place, any, name, then)?;
             match otherwise {
-                Some(otherwise) => {
-                    Ok(first_of(then, outer_in(alloc, place, any, name, otherwise)?))
-                }
+                Some(otherwise) => { Ok(then.or(outer_in(alloc, place, any, name, otherwise)?)) }
                 None => Ok(then),
             }
         }
@@ -273,7 +261,7 @@ fn outer_in(
             ..
         } => {
             let head = outer_of_head(alloc, place, any, name, first, update, body)?;
-            Ok(first_of(head, outer_in(alloc, place, any, name, body)?))
+            Ok(head.or(outer_in(alloc, place, any, name, body)?))
         }
         Stmt::Foreach {
             name_place,
@@ -286,7 +274,7 @@ fn outer_in(
                 place: *name_place,
             };
             let head = outer_of_foreach(alloc, place, any, name, own, body)?;
-            Ok(first_of(head, outer_in(alloc, place, any, name, body)?))
+            Ok(head.or(outer_in(alloc, place, any, name, body)?))
         }
         Stmt::Empty
         | Stmt::Declare { .. }
@@ -383,7 +371,7 @@ fn outer_in_method(
     ensures { IfOk result (λ o. o ≡ outer_in_method place any name.now (method_of method.now)) }
 {
     let params = outer_of_params(alloc, place, any, name, &method.params, &method.body)?;
-    Ok(first_of(params, outer_among(alloc, place, any, name, &method.body)?))
+    Ok(params.or(outer_among(alloc, place, any, name, &method.body)?))
 }
 
 // The same for the name of a variable, if it is at the position.
@@ -492,7 +480,7 @@ fn first_in_class(alloc: Global, place: Place, class: &Class) -> Result<Option<P
     let field = first_field(alloc, place, &class.members)?;
     let method = first_method(alloc, place, &class.members)?;
     let variable = first_in_members(alloc, place, false, &class.members)?;
-    Ok(first_of(field, first_of(method, variable)))
+    Ok(field.or(method.or(variable)))
 }
 
 fn first_in_classes(alloc: Global, place: Place, classes: &[Class]) -> Result<Option<Place>, Memory>
@@ -523,7 +511,7 @@ fn first_declaration(alloc: Global, tree: &Tree, place: Place) -> Result<Option<
     ensures { IfOk result (λ o. o ≡ first_declaration (tree_of tree.now) place) }
 {
     let class = first_class(alloc, place, &tree.classes)?;
-    Ok(first_of(class, first_in_classes(alloc, place, &tree.classes)?))
+    Ok(class.or(first_in_classes(alloc, place, &tree.classes)?))
 }
 
 // The reason at this position, if there is one.

@@ -10,7 +10,7 @@ ghost use Rattle.ti_rules.specs.StmtInContext.{stands};
 ghost use Rattle.ti_explain.specs.SingleReasons.{root_of_whole, root_of_initial, single_operand, arguments_of_whole, arguments_of_initial, arguments_in, part_here, plain_value, plain_argument, plain_for, effect_inside, plain_reason, plain_declaration, declaration_reason, effect_reason, statement_reasons};
 
 use crate::declarations::declaration_of;
-use crate::effects::{first_effect, first_effect_of_maybe, first_of, loop_effect};
+use crate::effects::{first_effect, first_effect_of_maybe, loop_effect};
 use crate::plain::{plain_initial, plain_part, plain_whole};
 use crate::reason::{EffectAt, PlainPart, ReasonKind, RefusalReason};
 use std::alloc::Global;
@@ -236,7 +236,7 @@ fn effect_inside(site: SingleContext<'_>, stmt: &Stmt) -> Option<EffectAt>
         },
         Stmt::For { update, .. } => {
             let found = loop_effect(site, stmt);
-            first_of(found, first_effect_of_maybe(site, true, update))
+            found.or(first_effect_of_maybe(site, true, update))
         }
         _ => loop_effect(site, stmt),
     }
