@@ -63,7 +63,7 @@ of_refused true rule at r among =
 
 -- ---- lookup
 
-same_self : (p : Place) → same_place p p ≡ true
+pub same_self : (p : Place) → same_place p p ≡ true
 same_self p = (λ j. eq-eqb p.line p.line refl j && (p.col == p.col)) ∙ eq-eqb p.col p.col refl
 
 some_if : (b : Bool) (at : Place) (what : NameReason) → b ≡ true → HasSome (reason_if b at what)

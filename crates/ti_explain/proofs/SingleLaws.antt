@@ -37,17 +37,20 @@ use Rattle.ti_explain.proofs.NamedLaws.{either, part_named, whole_named, initial
 
 -- ---- tests
 
+true_false : true ≡ false → ⊥
+true_false is = cc
+
 negated : (b : Bool) → not b ≡ true → b ≡ false
 negated false is = refl
+negated true is = absurd (true_false (sym is))
 
 right_of : (a b : Bool) → a && b ≡ true → b ≡ true
 right_of true b is = is
+right_of false b is = absurd (true_false (sym is))
 
 left_of : (a b : Bool) → a && b ≡ true → a ≡ true
 left_of true b is = refl
-
-some_there : {A : Type 0} (o : Option A) → is_none o ≡ false → is_some o ≡ true
-some_there (Some a) is = refl
+left_of false b is = absurd (true_false (sym is))
 
 none_second : {A : Type 0} (a b : Option A) → is_none b ≡ false → is_none (option_or a b) ≡ false
 none_second None b is = is
@@ -55,6 +58,7 @@ none_second (Some a) b is = refl
 
 none_first : {A : Type 0} (a b : Option A) → is_none a ≡ false → is_none (option_or a b) ≡ false
 none_first (Some a) b is = refl
+none_first None b is = absurd (true_false is)
 
 or_true : (a : Bool) → a || true ≡ true
 or_true true = refl
@@ -66,10 +70,12 @@ or_true false = refl
 with_part : (m : NumberedMethod) (o : Option PlainPart) (more : List RefusalReason) → is_none o ≡ false
     → names_cause (plain_reasons m o ++ more) ≡ true
 with_part m (Some part) more is = refl
+with_part m None more is = absurd (true_false is)
 
 -- an effect is a cause
 an_effect : (o : Option EffectAt) → is_some o ≡ true → names_cause (effect_reason o) ≡ true
 an_effect (Some found) is = refl
+an_effect None is = absurd (true_false (sym is))
 
 with_effect : (before : List RefusalReason) (o : Option EffectAt) → is_some o ≡ true → names_cause (before ++ effect_reason o) ≡ true
 with_effect before o is =
@@ -96,6 +102,7 @@ module _ (p : ProgramView) (around : StmtContext) where
   -- the condition of a `for`
   condition_plain : (o : Option NumberedExp) → is_plain_condition p around o ≡ true → is_none (option_and_then (part_here p around) o) ≡ false
   condition_plain (Some e) is = part_plain e is
+  condition_plain None is = absurd (true_false (sym is))
 
   -- ---- arguments
 
@@ -249,7 +256,7 @@ module _ (p : ProgramView) (around : StmtContext) where
       elim (Contains-append_cases (refused_if (loop_acts p around.method update body && is_plain_condition p around o) S2 at)
       (refused_if (doings_of_maybe p (this_of around.method) update).jumps S2 at) r among) [
         | inl own ↦ by_rule (st.For at init o update body) r S2 at (loop_acts p around.method update body) (is_plain_condition p around o) own (condition_plain o)
-        | inr jump ↦ by_jump at init o update body r (of_refused (doings_of_maybe p (this_of around.method) update).jumps S2 at r jump).1
+        | inr jump ↦ by_jump at init o update body r (of_refused (doings_of_maybe p (this_of around.method) update).jumps S2 at r jump).0
       ]
   statement_caused (st.Foreach at number domain body) r among =
       by_rule (st.Foreach at number domain body) r S3 at (loop_acts p around.method st.NoStm body) (is_plain_part p around domain) among (part_plain domain)
@@ -273,7 +280,7 @@ result_rule true (c.Typed t) r among = absurd (nothing_in r among)
 result_rule false (c.Typed t) r among = by (flat_contains word_refusals t.qualifiers r among)
   where
     by : ((q : Qualifier) × Contains t.qualifiers q × Contains (word_refusals q) r) → r.rule ≡ S9
-    by (q, found, own) = sym (ap (λ (u : Refusal). u.rule) (of_refused (is_single_word q.word) S9 q.place r own).2)
+    by (q, found, own) = sym (ap (λ (u : Refusal). u.rule) (of_refused (is_single_word q.word) S9 q.place r own).1)
 
 head_caused : (p : ProgramView) (m : NumberedMethod) (r : Refusal) → Contains (single_head_refusals p m) r → (r.rule ≡ S9 → ⊥)
     → names_cause (head_reasons p m r.rule) ≡ true

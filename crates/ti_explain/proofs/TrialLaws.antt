@@ -7,7 +7,7 @@ use Rattle.std.proofs.lemmas.List.{append_assoc, append-nil, length-append, get_
 use Rattle.std.specs.declared.vec.Vec.{Vec}
 use Rattle.std.specs.declared.alloc.Global.{Global}
 use Rattle.ti_base.specs.declared.memory.Memory.{Memory}
-use Rattle.std.proofs.Math.Seq.{get_or-append_seam, take-append_seam}
+use Rattle.std.proofs.Math.Seq.{get_or-append_seam, take-append_seam, take-append-add}
 use Rattle.std.proofs.lemmas.Option.{slice_get_read, slice_get_within, get_or_from_slice_get, same_Some}
 use Rattle.ti_base.specs.declared.place.Place.{Place}
 use Rattle.ti_base.specs.Places.{place_of, place_before, same_place}
@@ -23,6 +23,7 @@ use Rattle.ti_parse_expr.specs.Answers.{EndsAtEnd}
 use Rattle.ti_parse_expr.specs.declared.error.ParseErr.TheVariants as parser
 use Rattle.ti_parse.specs.Answer.{Parsed}
 use Rattle.ti_explain.specs.declared.reason.RefusalReason.{RefusalReason}
+use Rattle.ti_explain.specs.DepthReasons.{depth_reasons, AreTooDeepReasons}
 use Rattle.ti_explain.specs.Expected.{CanFollow, expected_reason, AreExpected, can_stand, cannot_stand, end_reason, IsEndExpected, can_end, cannot_end, token_texts, AreUnexpectedReasons}
 use Rattle.ti_explain.specs.Mirrors.Trials.{zero_place, IsOnly, IsKindOf, IsFront, IsTrial, moves_on, BeginsIf, Tries, TriesEnd, AreTokens, AreInOrder, IsFirstAt}
 
@@ -310,6 +311,7 @@ pub record Before (misfit : Misfit) (tokens : List Token) (at : Place) (index : 
   pub is_front : IsFront (take index tokens)
   pub placed : at ≡ zero_place → ⊥
   pub same : take index tokens ≡ r.front
+  pub number : length r.front ≡ index
   pub there : slice_get tokens index ≡ Some r.here
 
 pub before : (misfit : Misfit) (tokens : List Token) (at : Place) (index : ℕ) (r : Refused misfit tokens at) → AreInOrder tokens
@@ -325,6 +327,7 @@ before misfit tokens at index r order (t, here, place) =
       });
       placed = λ nowhere. order.somewhere (length r.front) r.here (there misfit tokens at r) (r.at_place ∙ nowhere);
       same = same;
+      number = is;
       there = ap (slice_get tokens) (sym is) ∙ there misfit tokens at r;
     }
   where
@@ -373,3 +376,23 @@ text_step f words i d front other at before after lt same so_far step =
     subst (λ l. AreExpected front at l after) (sym (texts_more f words i d lt))
     (one_text_more front at (map f (take i words)) (f (get_or words i d)) before after so_far
     (subst (λ l. Tries l at (f (get_or words i d)) before after) same step))
+
+-- ---- a token that is too deep
+
+-- the reasons for the tokens up to one that is too deep are those for the refusal
+pub depth_then : (tokens : List Token) (at : Place) (index : ℕ) (here : Token) (o : Result (Vec RefusalReason Global) Memory) (r : Refused TooDeep tokens at)
+    → Before TooDeep tokens at index r → slice_get tokens index ≡ Some here
+    → IfOk o (λ v. v.items ≡ depth_reasons here.kind (take (index + 1) tokens)) → IfOk o (λ v. AreTooDeepReasons tokens at v.items)
+depth_then tokens at index here (Err e) r b found is = is
+depth_then tokens at index here (Ok v) r b found is = record {
+  front = r.front;
+  here = r.here;
+  rest = r.rest;
+  is = r.is;
+  place = r.at_place;
+  misfit = r.shows;
+  all = is ∙ ap (λ (t : Token). depth_reasons t.kind (take (index + 1) tokens)) (same_Some here r.here (sym found ∙ b.there)) ∙ ap (depth_reasons r.here.kind) upto;
+}
+  where
+    upto : take (index + 1) tokens ≡ r.front ++ r.here ∷ []
+    upto = ap (λ n. take (n + 1) tokens) (sym b.number) ∙ ap (take (length r.front + 1)) r.is ∙ take-append-add r.front (r.here ∷ r.rest) 1

@@ -1,6 +1,6 @@
 // Where the nest of statements, or the expression, begins that is too deep at a token. The tokens alone tell: the weight of an expression
 // is a count of tokens, and the body of a method is within two braces.
-ghost use Rattle.std.specs.Prelude.{◌≡◌, ◌<◌, ◌+◌, length, ◌^◌, slice_get, reverse, Some, IfOk};
+ghost use Rattle.std.specs.Prelude.{◌≡◌, ◌<◌, ◌+◌, length, ◌^◌, slice_get, reverse, false, Some, IfOk};
 ghost use Rattle.ti_syntax.specs.Spelling.{TooDeep, IsGrammarRefusal};
 ghost use Rattle.ti_explain.specs.Mirrors.Trials.{AreTokens};
 ghost use Rattle.ti_explain.specs.DepthReasons.{AreTooDeepReasons, counted_behind, first_counted, begins_compound, separates, is_else, braces_after, parens_after, body_statements, outermost, nest_reason, weight_reason, depth_reasons};
@@ -81,27 +81,27 @@ fn is_else(kind: &TokenKind) -> bool
     matches!(kind, TokenKind::KeywordElse)
 }
 
-// How many braces are open after this token. No list of tokens has more than `usize` counts.
-fn braces_after(open: usize, kind: &TokenKind) -> usize
-    requires { open + 1 < 2 ^ 64 }
-    ensures { result ≡ braces_after open kind.now }
+// How many braces are open after this token, if so many were open before it.
+fn braces_after(count: usize, kind: &TokenKind) -> usize
+    requires { count + 1 < 2 ^ 64 }
+    ensures { result ≡ braces_after count kind.now }
 {
     match kind {
-        TokenKind::LeftBrace => open + 1,
-        TokenKind::RightBrace => open.saturating_sub(1),
-        _ => open,
+        TokenKind::LeftBrace => count + 1,
+        TokenKind::RightBrace => count.saturating_sub(1),
+        _ => count,
     }
 }
 
-// How many parentheses are open after this token.
-fn parens_after(open: usize, kind: &TokenKind) -> usize
-    requires { open + 1 < 2 ^ 64 }
-    ensures { result ≡ parens_after open kind.now }
+// How many parentheses are open after this token, if so many were open before it.
+fn parens_after(count: usize, kind: &TokenKind) -> usize
+    requires { count + 1 < 2 ^ 64 }
+    ensures { result ≡ parens_after count kind.now }
 {
     match kind {
-        TokenKind::LeftParen => open + 1,
-        TokenKind::RightParen => open.saturating_sub(1),
-        _ => open,
+        TokenKind::LeftParen => count + 1,
+        TokenKind::RightParen => count.saturating_sub(1),
+        _ => count,
     }
 }
 
@@ -183,5 +183,8 @@ pub fn too_deep_reasons(
     let Some(index) = first_at(tokens, place) else {
         unreachable!()
     };
-    depth_reasons(alloc, &tokens[index].kind, &tokens[..index + 1])
+    let Some(here) = tokens.get(index) else {
+        unreachable!()
+    };
+    depth_reasons(alloc, &here.kind, &tokens[..index + 1])
 }

@@ -1,4 +1,4 @@
-use Rattle.std.proofs.Common.{◌≡◌, ◌≤◌, ◌+◌, ◌×◌, ◌++◌, false, length}
+use Rattle.std.proofs.Common.{◌≡◌, ◌≤◌, ◌+◌, ◌++◌, false, length}
 use Rattle.ti_explain.specs.DepthReasons.{body_statements}
 use Rattle.ti_explain.proofs.depth.body_statements.Given as goal
 

@@ -4,8 +4,8 @@ use Rattle.ti_syntax.specs.Trees.Text.{tree_of}
 use Rattle.ti_parse.specs.Answer.{Parsed}
 use Rattle.ti_parse_expr.specs.declared.error.ParseErr.{ParseErr}
 use Rattle.ti_parse_expr.specs.declared.error.ParseErr.TheVariants.{Refused}
-use Rattle.ti_explain.specs.Explanations.{AreTokenReasons, of_unexpected}
-use Rattle.ti_explain.proofs.Explained.{alone, tree_then, depth_here}
+use Rattle.ti_explain.specs.Explanations.{of_unexpected, of_depth}
+use Rattle.ti_explain.proofs.Explained.{tree_then, depth_here}
 use Rattle.ti_explain.proofs.phases.explain_tokens.Goals as goal
 
 pub returns-in-Ok : goal.returns-in-Ok
@@ -15,10 +15,3 @@ returns-in-Ok c =
 
 pub returns-in_ok-reasons-in-G1 : goal.returns-in_ok-reasons-in-G1
 returns-in_ok-reasons-in-G1 c = inl (of_unexpected c.in-G1.is c.in_ok-reasons-in-G1.ensures)
-
-pub returns-in_default : goal.returns-in_default
-returns-in_default c =
-    inl (alone (AreTokenReasons c.args.tokens.items) c.in-Err-Refused.refusal c.unexplained.result c.unexplained.ensures.refusal c.unexplained.ensures.reasons
-    (depth_here c.args.tokens.items c.in-Err-Refused.refusal
-    (subst (λ (tokens : List Token). Parsed tokens (Err (Refused c.in-Err-Refused.refusal))) c.deref.ensures.value
-    (subst (λ (e : ParseErr). Parsed c.deref.result.now (Err e)) c.in-Err-Refused.field-0-is c.in-Err-Refused.ensures.answer)) c.in_default.not-G1))
