@@ -380,18 +380,18 @@ text_step f words i d front other at before after lt same so_far step =
 -- ---- a token that is too deep
 
 -- the reasons for the tokens up to one that is too deep are those for the refusal
-pub depth_then : (tokens : List Token) (at : Place) (index : ℕ) (here : Token) (o : Result (Vec RefusalReason Global) Memory) (r : Refused TooDeep tokens at)
-    → Before TooDeep tokens at index r → slice_get tokens index ≡ Some here
+pub depth_then : (tokens : List Token) (at : Place) (index : ℕ) (here default : Token) (o : Result (Vec RefusalReason Global) Memory) (r : Refused TooDeep tokens at)
+    → Before TooDeep tokens at index r → here ≡ get_or tokens index default
     → IfOk o (λ v. v.items ≡ depth_reasons here.kind (take (index + 1) tokens)) → IfOk o (λ v. AreTooDeepReasons tokens at v.items)
-depth_then tokens at index here (Err e) r b found is = is
-depth_then tokens at index here (Ok v) r b found is = record {
+depth_then tokens at index here default (Err e) r b found is = is
+depth_then tokens at index here default (Ok v) r b found is = record {
   front = r.front;
   here = r.here;
   rest = r.rest;
   is = r.is;
   place = r.at_place;
   misfit = r.shows;
-  all = is ∙ ap (λ (t : Token). depth_reasons t.kind (take (index + 1) tokens)) (same_Some here r.here (sym found ∙ b.there)) ∙ ap (depth_reasons r.here.kind) upto;
+  all = is ∙ ap (λ (t : Token). depth_reasons t.kind (take (index + 1) tokens)) (found ∙ get_or_from_slice_get tokens index r.here default b.there) ∙ ap (depth_reasons r.here.kind) upto;
 }
   where
     upto : take (index + 1) tokens ≡ r.front ++ r.here ∷ []

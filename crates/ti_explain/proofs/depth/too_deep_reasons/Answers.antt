@@ -14,4 +14,4 @@ pub returns : goal.returns
 returns c =
     let known = known_before TooDeep c.args.tokens.now c.args.place c.in-Some.index c.requires.tokens c.tokens_in_order.ensures.placed c.tokens_in_order.ensures.rises c.requires.misfit
     (subst (IsFirstAt c.args.tokens.now c.args.place) c.in-Some.is c.first_at.ensures) in
-    depth_then c.args.tokens.now c.args.place c.in-Some.index c.in-Some-get.here.now c.depth_reasons.result known.0 known.1 c.in-Some-get.ensures.lookup c.depth_reasons.ensures
+    depth_then c.args.tokens.now c.args.place c.in-Some.index c.in-Some-get.here.now _ c.depth_reasons.result known.0 known.1 c.in-Some-get.ensures.lookup.1 c.depth_reasons.ensures
