@@ -28,6 +28,7 @@ pub use laws::{
 pub use name_reason::{MainDefect, NameReason, SoughtName};
 pub use phases::explain;
 pub use reason::{
-    EffectAt, Explanation, GlobalEffect, PlainCause, PlainPart, ReasonKind, ReasonSpan,
-    RefusalReason,
+    ChainLink, EffectAt, Explanation, GlobalEffect, LinkCause, LinkPart, PlainCause, PlainPart,
+    ReasonKind, ReasonSpan, RefusalReason, RefusalReasons,
 };
+pub use spans::explanation_of;

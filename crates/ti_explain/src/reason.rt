@@ -77,6 +77,40 @@ pub struct EffectAt {
     pub effect: GlobalEffect,
 }
 
+/// What a link of a chain is about.
+#[derive(Clone, Copy, Debug, PartialEq, Eq)]
+pub enum LinkPart {
+    /// A local variable, which can't be single.
+    Variable,
+    /// A parameter, which can't be single.
+    Parameter,
+    /// The result of the method of this name, which can't be single.
+    Result,
+    /// The method of this name, which can't be single.
+    Method,
+    /// A collective, which all processes can't be made to reach together.
+    Collective,
+}
+
+/// By which kind of constraint a link of a chain follows from the one before it. The first link follows by itself.
+#[derive(Clone, Copy, Debug, PartialEq, Eq)]
+pub enum LinkCause {
+    /// By a value: that of a variable, an argument, what is returned, or the root or region of a collective. A first link that is a
+    /// method is one that can't have an annotation.
+    Value,
+    /// By a condition or a domain, which decides whether a statement is executed.
+    Condition,
+    /// By the method around it, which is the link before.
+    Method,
+}
+
+/// A link of a chain of constraints on annotations, which ends at a collective that no annotations align.
+#[derive(Clone, Copy, Debug, PartialEq, Eq)]
+pub struct ChainLink {
+    pub part: LinkPart,
+    pub cause: LinkCause,
+}
+
 /// What a reason says of its position.
 #[derive(Debug, Drop)]
 pub enum ReasonKind {
@@ -98,6 +132,8 @@ pub enum ReasonKind {
     PlainMethod,
     /// What there is for a refusal by a rule of names.
     Name(NameReason),
+    /// In mode infer, this follows from the reason before it.
+    Link(ChainLink),
 }
 
 /// A reason for a refusal: a position in the text, and what is there.
@@ -109,7 +145,7 @@ pub struct RefusalReason {
 
 /// A refusal with its reasons in a fixed order: for an unexpected token that of the texts that are tried, and then the end of the
 /// source; for a rule of single values the plain part, if there is one, with the declaration of its variable, and then the
-/// effect.
+/// effect; for a collective that no annotations align the links of a chain, up to the collective.
 #[derive(Drop)]
 pub struct RefusalReasons {
     pub refusal: Refusal,
