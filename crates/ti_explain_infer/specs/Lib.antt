@@ -1,0 +1,3 @@
+pub mod ChainLinks
+pub mod InferenceReasons
+pub mod Mirrors

@@ -1,0 +1,3 @@
+-- For proofs only: a functional model of the code. Only contracts of private functions depend on
+-- it.
+pub mod Phases
