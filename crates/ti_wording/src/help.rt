@@ -1,6 +1,7 @@
 // Help: one line on how an error is fixed, by its first reason or by its rule.
 ghost use Rattle.std.specs.Prelude.{◌<◌, length};
 
+use crate::chain_labels::chain_help;
 use crate::grammar_help::{byte_help, grammar_help};
 use crate::memory::NoMemory;
 use crate::name_labels::name_help;
@@ -8,7 +9,7 @@ use crate::token_words::type_help;
 use crate::tokens::{display_text, has_word, line_of, token_at};
 use std::alloc::{AllocError, Global};
 use ti_base::Place;
-use ti_explain::{Explanation, PlainCause, ReasonKind, ReasonSpan};
+use ti_explain::{ChainLink, Explanation, PlainCause, ReasonKind, ReasonSpan};
 use ti_rules::{Refusal, Rule};
 
 // The help for a plain part.
@@ -144,7 +145,8 @@ fn telling_reason(reasons: &[ReasonSpan]) -> Option<&ReasonSpan> {
             | ReasonKind::PlainDeclaration
             | ReasonKind::Expected(_)
             | ReasonKind::ExpectedEnd
-            | ReasonKind::Name(_) => return Some(reason),
+            | ReasonKind::Name(_)
+            | ReasonKind::Link(_) => return Some(reason),
             _ => {}
         }
     }
@@ -158,6 +160,15 @@ fn unless_empty(words: &'static str, rule: Rule) -> &'static str {
     } else {
         words
     }
+}
+
+// The help for a collective that no annotations align, by the first link of its chain.
+fn link_help(text: &[u8], first: &ReasonSpan, link: ChainLink) -> &'static str {
+    let line = line_of(text, first.place.line);
+    if has_word(line, "thisProc") && !has_word(line, "broadcast") {
+        return OF_THIS_PROC;
+    }
+    unless_empty(chain_help(link), Rule::B1)
 }
 
 // The help for an error without reasons, by its token, else by its rule.
@@ -183,6 +194,7 @@ pub fn help_of(alloc: Global, text: &[u8], explanation: &Explanation) -> Result<
             ReasonKind::Name(reason) => {
                 help.push_str(unless_empty(name_help(reason), refusal.rule))?
             }
+            ReasonKind::Link(link) => help.push_str(link_help(text, reason, *link))?,
             _ => help.push_str(grammar_help(text, explanation))?,
         },
         None => help.push_str(refusal_help(text, explanation))?,

@@ -1,6 +1,7 @@
 // Labels: what is said at the position of an error, and at that of each reason.
 ghost use Rattle.std.specs.Prelude.{◌<◌, length};
 
+use crate::chain_labels::link_label;
 use crate::expectation::expectation;
 use crate::memory::NoMemory;
 use crate::name_labels::{own_label, push_name_reason};
@@ -120,7 +121,8 @@ fn push_effect(label: &mut String, effect: GlobalEffect, token: &str) -> Result<
     }
 }
 
-/// The label of a reason of this kind; `token` is the token at its position.
+/// The label of a reason of this kind; `token` is the token at its position. Empty for a link of a chain, whose label also names the link
+/// before it (`link_label`).
 pub fn reason_label(alloc: Global, kind: &ReasonKind, token: &str) -> Result<String, AllocError> {
     let mut label = String::new(alloc);
     match kind {
@@ -132,7 +134,7 @@ pub fn reason_label(alloc: Global, kind: &ReasonKind, token: &str) -> Result<Str
             label.push_str(token)?;
             label.push_str(DECLARED_PLAIN)?;
         }
-        ReasonKind::Expected(_) | ReasonKind::ExpectedEnd => {}
+        ReasonKind::Expected(_) | ReasonKind::ExpectedEnd | ReasonKind::Link(_) => {}
         ReasonKind::NestBegins => label.push_str("the outermost of the nested statements")?,
         ReasonKind::WeightBegins => {
             label.push_str("the first bracket, dot or operator of the expression")?
@@ -178,6 +180,10 @@ pub fn error_label(
     let mut label = expectation(alloc, &explanation.reasons, token.as_str())?;
     if label.is_empty() {
         label.push_str(first_own_label(&explanation.reasons))?;
+    }
+    if label.is_empty() {
+        let last = explanation.reasons.len().saturating_sub(1);
+        label = link_label(alloc, text, &explanation.reasons, last)?;
     }
     if label.is_empty() {
         label.push_str(type_label(text, explanation))?;

@@ -2,6 +2,7 @@
 //! here.
 #![tactic(auto)]
 
+mod chain_labels;
 mod expectation;
 mod grammar_help;
 mod help;
@@ -11,6 +12,7 @@ mod name_labels;
 mod token_words;
 mod tokens;
 
+pub use chain_labels::{is_chain, link_label};
 pub use help::{help_of, rule_help};
 pub use labels::{error_label, primary_label, reason_label};
 pub use memory::NoMemory;

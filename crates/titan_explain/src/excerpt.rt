@@ -6,7 +6,8 @@ use ti_base::Place;
 use ti_explain::{Explanation, ReasonKind, ReasonSpan};
 use ti_rules::{Refusal, rule_text};
 use ti_wording::{
-    NoMemory, display_text, error_label, help_of, is_own, line_of, reason_label, token_at,
+    NoMemory, display_text, error_label, help_of, is_chain, is_own, line_of, link_label,
+    reason_label, token_at,
 };
 
 // The largest number of marks that are shown.
@@ -56,12 +57,42 @@ fn is_marked(reason: &ReasonSpan, next: Option<&ReasonSpan>) -> bool {
     }
 }
 
-// The marks of an explanation, in the order of the text.
+// Whether a link of a chain with so many links before its collective has a mark: of a long chain, the first two and the last three.
+fn is_shown(index: usize, count: usize) -> bool {
+    count < MOST_MARKS || index < 2 || index.saturating_add(3) >= count
+}
+
+// The marks of a chain, in its order; the last is that of the refusal, which is at the collective.
+fn chain_marks(
+    alloc: Global,
+    text: &[u8],
+    explanation: &Explanation,
+) -> Result<Vec<Underline>, NoMemory> {
+    let mut marks = Vec::new(alloc);
+    let count = explanation.reasons.len().saturating_sub(1);
+    for (i, reason) in explanation.reasons.iter().take(count).enumerate() {
+        if is_shown(i, count) {
+            marks.push(Underline {
+                place: reason.place,
+                len: reason.len,
+                drawn: '-',
+                label: link_label(alloc, text, &explanation.reasons, i)?,
+            })?;
+        }
+    }
+    marks.push(error_mark(alloc, text, explanation)?)?;
+    Ok(marks)
+}
+
+// The marks of an explanation, in the order of the text, or in that of a chain.
 fn marks_of(
     alloc: Global,
     text: &[u8],
     explanation: &Explanation,
 ) -> Result<Vec<Underline>, NoMemory> {
+    if is_chain(&explanation.reasons) {
+        return chain_marks(alloc, text, explanation);
+    }
     let mut marks = Vec::new(alloc);
     marks.push(error_mark(alloc, text, explanation)?)?;
     for (i, reason) in explanation.reasons.iter().enumerate() {

@@ -1,9 +1,10 @@
 //! `titan_explain`: says why programs are refused, with excerpts of their texts. It is a program of its own beside `titan`, whose words and
 //! outputs stay as they are.
 //!
-//! `titan_explain FILE..` writes the reports of the files in their order to standard output, so that they can be paged. The status is 0 if
-//! all texts are accepted (nothing is written about those), 1 if one is refused, 3 for no file, 4 if a file can't be read, 5 if standard
-//! output can't be written, and 6 if memory runs out; with 3 to 6 it ends there.
+//! `titan_explain [FILE..] [--infer FILE..]` writes the reports of the files in their order to standard output, so that they can be paged: those
+//! after `--infer` as mode infer refuses them, the others as the other modes do. The status is 0 if all texts are accepted (nothing is
+//! written about those), 1 if one is refused, 3 for no file, 4 if a file can't be read, 5 if standard output can't be written, and 6 if
+//! memory runs out; with 3 to 6 it ends there.
 #![tactic(auto)]
 
 mod excerpt;
@@ -14,9 +15,18 @@ use std::alloc::Global;
 use std::io::{self, ErrorKind};
 use std::process::ExitCode;
 use std::{env, fs};
-use ti_explain::explain;
+use ti_base::Memory;
+use ti_explain::{Explanation, explain};
+use ti_explain_infer::explain_inference;
 
-const USAGE: &str = "usage: titan_explain FILE..";
+const USAGE: &str = "usage: titan_explain [FILE..] [--infer FILE..]";
+
+/// A file that is explained: its name, and whether as mode infer refuses it.
+#[derive(Drop)]
+struct Job {
+    name: String,
+    is_infer: bool,
+}
 
 /// Why there is no report.
 #[derive(Clone, Copy)]
@@ -38,23 +48,26 @@ impl Stop {
     }
 }
 
-// The arguments: at least one, all of which are Unicode.
-fn file_names(rt: &HostRuntime) -> Result<Vec<String>, Stop> {
+// The files of the arguments, which are all Unicode: at least one.
+fn jobs(rt: &HostRuntime) -> Result<Vec<Job>, Stop> {
     let args = match env::args(rt) {
         Ok(args) => args,
         Err(e) if e.kind() == ErrorKind::InvalidData => return Err(Stop::Arguments),
         Err(_) => return Err(Stop::Memory),
     };
-    let mut names = Vec::new(rt.alloc());
-    for word in args.skip(1) {
-        if names.push(word).is_err() {
+    let mut jobs = Vec::new(rt.alloc());
+    let mut is_infer = false;
+    for name in args.skip(1) {
+        if name.as_str() == "--infer" {
+            is_infer = true;
+        } else if jobs.push(Job { name, is_infer }).is_err() {
             return Err(Stop::Memory);
         }
     }
-    if names.is_empty() {
+    if jobs.is_empty() {
         Err(Stop::Arguments)
     } else {
-        Ok(names)
+        Ok(jobs)
     }
 }
 
@@ -66,11 +79,19 @@ fn read(rt: &HostRuntime, name: &str) -> Result<Vec<u8>, Stop> {
     }
 }
 
+fn explain_as(alloc: Global, text: &[u8], is_infer: bool) -> Result<Option<Explanation>, Memory> {
+    if is_infer {
+        explain_inference(alloc, text)
+    } else {
+        explain(alloc, text)
+    }
+}
+
 // The report of a text; None if it is accepted.
-fn report_on(alloc: Global, name: &str, text: &[u8]) -> Result<Option<String>, Stop> {
-    match explain(alloc, text) {
+fn report_on(alloc: Global, job: &Job, text: &[u8]) -> Result<Option<String>, Stop> {
+    match explain_as(alloc, text, job.is_infer) {
         Ok(None) => Ok(None),
-        Ok(Some(explanation)) => match report(alloc, name, text, &explanation) {
+        Ok(Some(explanation)) => match report(alloc, job.name.as_str(), text, &explanation) {
             Ok(report) => Ok(Some(report)),
             Err(_) => Err(Stop::Memory),
         },
@@ -79,9 +100,9 @@ fn report_on(alloc: Global, name: &str, text: &[u8]) -> Result<Option<String>, S
 }
 
 // Writes the report of a file, if its text is refused, with this text before it. Returns whether it is.
-fn run(rt: &HostRuntime, name: &str, before: &str) -> Result<bool, Stop> {
-    let text = read(rt, name)?;
-    match report_on(rt.alloc(), name, &text)? {
+fn run(rt: &HostRuntime, job: &Job, before: &str) -> Result<bool, Stop> {
+    let text = read(rt, job.name.as_str())?;
+    match report_on(rt.alloc(), job, &text)? {
         Some(report) => match print!(rt; "{before}{report}") {
             Ok(()) => Ok(true),
             Err(_) => Err(Stop::Unwritable),
@@ -91,11 +112,11 @@ fn run(rt: &HostRuntime, name: &str, before: &str) -> Result<bool, Stop> {
 }
 
 fn run_all(rt: &HostRuntime) -> Result<u8, Stop> {
-    let names = file_names(rt)?;
+    let jobs = jobs(rt)?;
     let mut status = 0;
     let mut before = "";
-    for name in &names {
-        if run(rt, name.as_str(), before)? {
+    for job in &jobs {
+        if run(rt, job, before)? {
             status = 1;
             before = "\n";
         }
