@@ -145,6 +145,8 @@ fn telling_reason(reasons: &[ReasonSpan]) -> Option<&ReasonSpan> {
             | ReasonKind::PlainDeclaration
             | ReasonKind::Expected(_)
             | ReasonKind::ExpectedEnd
+            | ReasonKind::NestBegins
+            | ReasonKind::WeightBegins
             | ReasonKind::Name(_)
             | ReasonKind::Link(_) => return Some(reason),
             _ => {}
@@ -195,6 +197,8 @@ pub fn help_of(alloc: Global, text: &[u8], explanation: &Explanation) -> Result<
                 help.push_str(unless_empty(name_help(reason), refusal.rule))?
             }
             ReasonKind::Link(link) => help.push_str(link_help(text, reason, *link))?,
+            ReasonKind::NestBegins => help.push_str("move the inner statements to a method")?,
+            ReasonKind::WeightBegins => help.push_str("store parts of it in variables")?,
             _ => help.push_str(grammar_help(text, explanation))?,
         },
         None => help.push_str(refusal_help(text, explanation))?,

@@ -137,7 +137,7 @@ pub fn reason_label(alloc: Global, kind: &ReasonKind, token: &str) -> Result<Str
         ReasonKind::Expected(_) | ReasonKind::ExpectedEnd | ReasonKind::Link(_) => {}
         ReasonKind::NestBegins => label.push_str("the outermost of the nested statements")?,
         ReasonKind::WeightBegins => {
-            label.push_str("the first bracket, dot or operator of the expression")?
+            label.push_str("the first bracket, dot or operator that is counted")?
         }
         ReasonKind::PlainMethod => {
             label.push('`')?;

@@ -46,6 +46,10 @@ pub(crate) fn own_label(kind: &ReasonKind) -> &'static str {
         ReasonKind::Name(NameReason::Main(MainDefect::TextParameter)) => {
             "this is not the method `main` of class `Main`"
         }
+        ReasonKind::NestBegins => "this statement is the 65th level, and 64 are possible",
+        ReasonKind::WeightBegins => {
+            "this is the 257th bracket, dot or operator of the expression, and 256 are possible"
+        }
         _ => "",
     }
 }
