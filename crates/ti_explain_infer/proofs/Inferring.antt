@@ -5,26 +5,20 @@ use Rattle.ti_base.specs.declared.memory.Memory.{Memory}
 use Rattle.ti_base.specs.declared.place.Place.{Place}
 use Rattle.ti_lang.specs.Program.Classes.{ProgramView}
 use Rattle.ti_rules.specs.declared.rule.Rule.{Rule}
-use Rattle.ti_rules.specs.declared.rule.Rule.TheVariants.{B1}
 use Rattle.ti_rules.specs.declared.refusal.Refusal.{Refusal}
 use Rattle.ti_rules.specs.Refusals.{counts_before, IsFirstRefusal}
 use Rattle.ti_rules.specs.TypeRules.{type_refusals}
-use Rattle.ti_rules.specs.RefusalOf.{HasNone, IsRefusal}
+use Rattle.ti_rules.specs.RefusalOf.{IsRefusal}
 use Rattle.ti_rules.proofs.Lemmas.{OneReading, one_refusal, first_only}
 use Rattle.ti_check.specs.Answer.{GivesTyped}
 use Rattle.ti_check.specs.declared.error.CheckErr.TheVariants as checker
-use Rattle.ti_infer.specs.declared.inference.Unaligned.{Unaligned}
 use Rattle.ti_infer.specs.Stripped.{stripped}
 use Rattle.ti_infer.specs.OfTexts.{IsUnmarkedRefusal}
 use Rattle.ti_infer.specs.OfTexts as unmarked
-use Rattle.ti_infer.specs.Unaligned.{IsProgramChain, IsUnaligned}
-use Rattle.ti_infer.specs.Answer.{IsGreatestMarking, IsFirstUnaligned}
 use Rattle.ti_explain.specs.declared.reason.Explanation.{Explanation}
-use Rattle.ti_explain.specs.declared.reason.RefusalReasons.{RefusalReasons}
 use Rattle.ti_explain.specs.Explanations.{AreReasons, Explains}
 use Rattle.ti_explain.specs.ReasonSpans.{without_len, HasLengths}
-use Rattle.ti_explain_infer.specs.ChainLinks.{chain_links}
-use Rattle.ti_explain_infer.specs.InferenceReasons.{IsResolved, IsTypeRefusal, IsTextChain, AreInferenceReasons, of_check, of_types, of_chain, IsInferenceExplained, ExplainsInference}
+use Rattle.ti_explain_infer.specs.InferenceReasons.{IsResolved, IsTypeRefusal, AreInferenceReasons, of_check, of_types, of_chain, IsInferenceExplained, ExplainsInference}
 use Rattle.ti_explain_infer.specs.Mirrors.Phases.{neither_before, IsExplainedAs, IsChainExplained, GivesChainExplained}
 
 -- ---- one refusal
@@ -98,23 +92,6 @@ unshared text r (Err memory) is never same none lengths = tt
 -- it has another refusal
 pub another : OneReading → (text : List ℕ) (r : Refusal) (e : Explanation) → Explains text (Ok (Some e)) → neither_before e.refusal r ≡ false → IsRefusal text r → ⊥
 another known text r e is differ other = two_refusals e.refusal r differ (one_refusal known text e.refusal r is.0 other)
-
--- ---- the chain
-
-pub chained : (text : List ℕ) (p : ProgramView) (found : Unaligned) (reasons : RefusalReasons) (e : Explanation) → IsUnaligned p found
-    → reasons.refusal ≡ record { rule = B1; place = found.place } → reasons.reasons.items ≡ chain_links p found.steps.items
-    → e.refusal ≡ reasons.refusal → map without_len e.reasons.items ≡ reasons.reasons.items → HasLengths text e → IsChainExplained text p e
-chained text p found reasons e is refusal links same all lengths =
-    let whole = same ∙ refusal in
-    let place : found.place ≡ e.refusal.place = sym (ap (λ (x : Refusal). x.place) whole) in
-    record {
-      rule = ap (λ (x : Refusal). x.rule) whole;
-      first = subst (IsFirstUnaligned p) place is.first;
-      steps = found.steps.items;
-      chain = subst (λ at. IsProgramChain p at found.steps.items) place is.chain;
-      reasons = all ∙ links;
-      lengths = lengths;
-    }
 
 -- ---- a text with a program
 

@@ -1,5 +1,5 @@
 -- A text without a program is refused alike by all modes, so its explanation in mode check is the one in mode infer.
-use Rattle.std.proofs.Common.{◌≡◌, ℕ, List, Option, Some, None, Result, Ok, Err, sym, ap, subst}
+use Rattle.std.proofs.Common.{ℕ, List, Option, Some, None, Result, Ok, Err, sym, ap, subst}
 use Rattle.ti_base.specs.declared.memory.Memory.{Memory}
 use Rattle.ti_base.specs.declared.place.Place.{Place}
 use Rattle.ti_syntax.specs.declared.token.Token.{Token}
@@ -12,7 +12,7 @@ use Rattle.ti_rules.specs.declared.refusal.Refusal.{Refusal}
 use Rattle.ti_rules.specs.LexicalRefusals.{IsLexicalRefusal}
 use Rattle.ti_rules.specs.Refusals.{IsFirstRefusal}
 use Rattle.ti_rules.specs.BrokenNames.{BreaksNames}
-use Rattle.ti_rules.specs.RefusalOf.{HasNone, HasTokens, HasTree, IsRefusal, rule_of_misfit}
+use Rattle.ti_rules.specs.RefusalOf.{HasNone, HasTokens, HasTree, IsRefusal}
 use Rattle.ti_rules.specs.RefusalOf as refusal
 use Rattle.ti_rules.proofs.Lemmas.{OneReading, one_refusal, tokens_or_bytes, tree_or_misfit}
 use Rattle.ti_parse.specs.Answer.{Parsed}

@@ -1,6 +1,6 @@
 -- The links of a chain of constraints, as reasons: what each rules out, and by which kind of
 -- constraint.
-use Rattle.std.specs.Prelude.{ℕ, Bool, true, false, if◌then◌else◌, List, [], ◌∷◌, flat_map, Option, Some, None}
+use Rattle.std.specs.Prelude.{Bool, false, if◌then◌else◌, List, [], ◌∷◌, flat_map, Option, Some, None}
 use Rattle.std.specs.List.{list_any}
 use Rattle.ti_base.specs.declared.place.Place.{Place}
 use Rattle.ti_base.specs.Places.{same_place}
