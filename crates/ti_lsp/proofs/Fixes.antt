@@ -1,5 +1,5 @@
 -- Fixes that are offered, what requests return, and changes that are made.
-use Rattle.std.proofs.Common.{◌≡◌, ◌<◌, ◌+◌, ◌++◌, ◌∷◌, [], ℕ, ℤ, Bool, true, false, List, Option, None, Some, option_map, string_bytes, refl, sym, ap, ◌∙◌, subst, inl, inr, IsUtf8, All, length, map, take, get_or}
+use Rattle.std.proofs.Common.{◌≡◌, ◌<◌, ◌+◌, ◌++◌, ◌∷◌, [], ℕ, ℤ, Bool, true, false, List, Option, None, Some, string_bytes, refl, sym, ap, ◌∙◌, subst, inl, inr, IsUtf8, All, length, map, take, get_or}
 use Rattle.std.proofs.lemmas.List.{take_more, map-append}
 use Rattle.serde_json.specs.Data.{Data, null, array}
 use Rattle.serde_json.specs.View.{items_of, view}

@@ -150,8 +150,8 @@ impl<A: Analyzer> Session<A> {
     {
         match request {
             Request::Initialize(client) => {
-                let able = capabilities(alloc, client.encoding)?;
-                let response = success_response(alloc, id, able)?;
+                let supported = capabilities(alloc, client.encoding)?;
+                let response = success_response(alloc, id, supported)?;
                 self.phase = Phase::Running;
                 self.client = client;
                 Ok(response)

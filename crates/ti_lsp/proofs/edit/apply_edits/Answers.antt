@@ -1,4 +1,4 @@
-use Rattle.std.proofs.Common.{◌≡◌, [], ◌+◌, ◌∷◌, ◌++◌, true, ℕ, ap, ap₂, sym, List, drop, slice_range, string_bytes, length, slice_index_or, ◌∙◌, arith}
+use Rattle.std.proofs.Common.{◌≡◌, ◌+◌, ◌∷◌, ◌++◌, true, ℕ, ap, ap₂, sym, List, drop, slice_range, string_bytes, length, slice_index_or, ◌∙◌, arith}
 use Rattle.std.proofs.lemmas.Grind.{common_steps}
 use Rattle.ti_lsp.specs.declared.edit.TextEdit.{TextEdit}
 use Rattle.ti_lsp.specs.Edits.{is_next}

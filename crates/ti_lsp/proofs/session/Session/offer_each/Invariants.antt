@@ -1,4 +1,4 @@
-use Rattle.std.proofs.Common.{map, string_bytes, take}
+use Rattle.std.proofs.Common.{map, take}
 use Rattle.serde_json.specs.View.{view}
 use Rattle.ti_lsp.specs.Handling.{OffersEach}
 use Rattle.ti_lsp.proofs.session.Session.offer_each.Given as goal

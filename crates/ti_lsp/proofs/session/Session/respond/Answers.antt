@@ -10,7 +10,7 @@ use Rattle.ti_lsp.proofs.session.Session.respond.Goals as goal
 pub returns-in_ok-response-in-Hover-clause-response : goal.returns-in_ok-response-in-Hover-clause-response
 returns-in_ok-response-in-Hover-clause-response g c =
     let is : request_view c.args.request ≡ hover (string_bytes c.in-Hover.uri) c.in-Hover.at = ap request_view c.in-Hover.is in
-    let uri : c.deref-in-Hover.result.now ≡ string_bytes c.in-Hover.uri = search rules in
+    let uri : c.deref.result.now ≡ string_bytes c.in-Hover.uri = search rules in
     let such = subst (λ (u : List ℕ). Hovers c.args.self.now.client.encoding (get_by_text c.args.self.now.documents u) c.in-Hover.at
     (view c.in_ok-hover-in-Hover.hover)) uri c.in_ok-hover-in-Hover.ensures in
     subst (λ (r : RequestView). Responds g.A.Analyzer.rejects (get_by_text c.args.self.now.documents) (view c.args.id.now) (server_state_of c.args.self.now) r
