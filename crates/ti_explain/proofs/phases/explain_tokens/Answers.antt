@@ -20,7 +20,7 @@ returns-in_ok-reasons-in-G1 c = inl (of_unexpected c.in-G1.is c.in_ok-reasons-in
 pub returns-in_ok-reasons-in_default : goal.returns-in_ok-reasons-in_default
 returns-in_ok-reasons-in_default c =
     let deep = depth_here c.args.tokens.items c.in-Err-Refused.refusal
-        (subst (λ (tokens : List Token). Parsed tokens (Err (Refused c.in-Err-Refused.refusal))) c.deref.ensures.value
-        (subst (λ (e : ParseErr). Parsed c.deref.result.now (Err e)) c.in-Err-Refused.field-0-is c.in-Err-Refused.ensures.answer)) c.in_default.not-G1 in
+    (subst (λ (tokens : List Token). Parsed tokens (Err (Refused c.in-Err-Refused.refusal))) c.deref.ensures.value
+    (subst (λ (e : ParseErr). Parsed c.deref.result.now (Err e)) c.in-Err-Refused.field-0-is c.in-Err-Refused.ensures.answer)) c.in_default.not-G1 in
     inl (of_depth deep.0 (subst (λ (tokens : List Token). AreTooDeepReasons tokens c.in-Err-Refused.refusal.place c.in_ok-reasons-in_default.reasons.items)
-        c.deref-in_default.ensures.value c.in_ok-reasons-in_default.ensures))
+    c.deref-in_default.ensures.value c.in_ok-reasons-in_default.ensures))
