@@ -33,13 +33,13 @@ use Rattle.ti_explain.specs.Mirrors.Phases.{ProgramExplained, TreeExplained, Tok
 
 -- ---- explained is refused
 
-program_refused : (p : ProgramView) (r : Refusal) (l : List RefusalReason) → AreProgramReasons p r l → IsProgramRefusal p r
-program_refused p r l (explained.of_types first) = refusals.of_types first
-program_refused p r l (explained.of_single none first reasons) = refusals.of_single none first
+program_refused : (tree : TextTree) (p : ProgramView) (r : Refusal) (l : List RefusalReason) → AreProgramReasons tree p r l → IsProgramRefusal p r
+program_refused tree p r l (explained.of_types first reasons) = refusals.of_types first
+program_refused tree p r l (explained.of_single none first reasons) = refusals.of_single none first
 
 tree_refused : (tree : TextTree) (r : Refusal) (l : List RefusalReason) → AreTreeReasons tree r l → IsTreeRefusal tree r
 tree_refused tree r l (explained.of_names first) = text.of_names first
-tree_refused tree r l (explained.of_program {program = p} {reasons = reasons} named numbers is) = text.of_program named numbers (program_refused p r reasons is)
+tree_refused tree r l (explained.of_program {program = p} {reasons = reasons} named numbers is) = text.of_program named numbers (program_refused tree p r reasons is)
 
 refusal_at : Rule → Place → Refusal
 refusal_at rule place = record { rule = rule; place = place }
@@ -77,7 +77,7 @@ by_single p q r same none is = of_this (subst (λ x. IsProgramRefusal x r) same 
     of_this (refusals.of_types first) = absurd (not_among (type_refusals p) r none first.is_broken)
     of_this (refusals.of_single nothing first) = first
 
-pub program_then : (tree : TextTree) (p : ProgramView) (o : Result (Option RefusalReasons) Memory) → HasNone (BreaksNames tree) → Numbers tree p → ProgramExplained p o
+pub program_then : (tree : TextTree) (p : ProgramView) (o : Result (Option RefusalReasons) Memory) → HasNone (BreaksNames tree) → Numbers tree p → ProgramExplained tree p o
     → TreeExplained tree o
 program_then tree p (Ok None) named numbers is = record { program = p; named = named; numbers = numbers; unbroken = is }
 program_then tree p (Ok (Some e)) named numbers is = explained.of_program named numbers is

@@ -16,23 +16,22 @@ use Rattle.ti_lang.specs.Program.Statements.{NumberedStm, numbered_stms}
 use Rattle.ti_lang.specs.Program.Statements as st
 use Rattle.ti_lang.specs.Program.Classes.{ProgramView}
 use Rattle.ti_lang.specs.Program.Views.{expression_of, statement_of}
-use Rattle.ti_rules.specs.declared.refusal.Refusal.{Refusal}
 use Rattle.ti_rules.specs.StmtInContext.{StmtContext, StmtInContext, stands, inside, inside_maybe, inside_all}
 use Rattle.ti_explain.specs.declared.reason.RefusalReason.{RefusalReason}
 use Rattle.ti_single.specs.Mirrors.Maybe.{maybe_in}
-use Rattle.ti_explain.specs.SingleReasons.{statement_reasons}
-use Rattle.ti_explain.specs.Mirrors.Found.{IsRefusedAs, IsFound, nested}
+use Rattle.ti_explain.specs.declared.search.SoughtRefusal.{SoughtRefusal}
+use Rattle.ti_explain.specs.Mirrors.Found.{reasons_of_statement, IsRefusedAs, IsFound, nested}
 
 -- in an empty list
-pub found_nothing : (p : ProgramView) (r : Refusal) → IsFound p r [] None
+pub found_nothing : (p : ProgramView) (r : SoughtRefusal) → IsFound p r [] None
 found_nothing p r x among refused = omega (arith, among.1)
 
 -- in the first of two lists
-pub found_left : (p : ProgramView) (r : Refusal) (xs ys : List StmtInContext) (v : Vec RefusalReason Global) → IsFound p r xs (Some v) → IsFound p r (xs ++ ys) (Some v)
+pub found_left : (p : ProgramView) (r : SoughtRefusal) (xs ys : List StmtInContext) (v : Vec RefusalReason Global) → IsFound p r xs (Some v) → IsFound p r (xs ++ ys) (Some v)
 found_left p r xs ys v (x, among, refused, is) = (x, Contains-append_left xs ys x among, refused, is)
 
 -- nothing in the first, and this in the second
-pub found_right : (p : ProgramView) (r : Refusal) (xs ys : List StmtInContext) (o : Option (Vec RefusalReason Global)) → IsFound p r xs None → IsFound p r ys o → IsFound p r (xs ++ ys) o
+pub found_right : (p : ProgramView) (r : SoughtRefusal) (xs ys : List StmtInContext) (o : Option (Vec RefusalReason Global)) → IsFound p r xs None → IsFound p r ys o → IsFound p r (xs ++ ys) o
 found_right p r xs ys None none others =
     λ x among refused. elim (Contains-append_cases xs ys x among) [ inl left ↦ none x left refused | inr right ↦ others x right refused ]
 found_right p r xs ys (Some v) none (x, among, refused, is) = (x, Contains-append_right xs ys x among, refused, is)
@@ -47,18 +46,18 @@ whole_is p around (st.For at first c update body) = λ j. inside p around (st.Fo
 whole_is p around (st.Foreach at number domain body) = λ j. inside p around (st.Foreach at number domain body)
 whole_is p around x = λ j. inside p around x
 
-pub found_whole : (p : ProgramView) (r : Refusal) (around : StmtContext) (x : NumberedStm) (o : Option (Vec RefusalReason Global))
+pub found_whole : (p : ProgramView) (r : SoughtRefusal) (around : StmtContext) (x : NumberedStm) (o : Option (Vec RefusalReason Global))
     → IsFound p r (stands around x ∷ []) None → IsFound p r (nested p around x) o → IsFound p r (inside p around x) o
 found_whole p r around x o none others = subst (λ l. IsFound p r l o) (sym (whole_is p around x)) (found_right p r (stands around x ∷ []) (nested p around x) o none others)
 
-pub found_first : (p : ProgramView) (r : Refusal) (around : StmtContext) (x : NumberedStm) (v : Vec RefusalReason Global)
+pub found_first : (p : ProgramView) (r : SoughtRefusal) (around : StmtContext) (x : NumberedStm) (v : Vec RefusalReason Global)
     → IsFound p r (stands around x ∷ []) (Some v) → IsFound p r (inside p around x) (Some v)
 found_first p r around x v found = subst (λ l. IsFound p r l (Some v)) (sym (whole_is p around x)) (found_left p r (stands around x ∷ []) (nested p around x) v found)
 
 -- ---- one after the other
 
 -- what is found from a statement on is what is found in all
-abbrev pub Left : ProgramView → Refusal → StmtContext → List Stmt → ℕ → Type 0
+abbrev pub Left : ProgramView → SoughtRefusal → StmtContext → List Stmt → ℕ → Type 0
 Left p r around xs i = (o : Option (Vec RefusalReason Global)) → IsFound p r (inside_all p around (numbered_stms (map statement_of (drop i xs)))) o
     → IsFound p r (inside_all p around (numbered_stms (map statement_of xs))) o
 
@@ -69,17 +68,17 @@ from_here p around xs i x lt here =
     ap (λ l. inside_all p around (numbered_stms (map statement_of l))) (drop-cons xs i x lt ∙ ap (λ j. get_or xs i x ∷ drop j xs) (sym (add-one i)))
     ∙ ap (λ z. inside p around (statement_of z) ++ inside_all p around (numbered_stms (map statement_of (drop (i + 1) xs)))) (sym here)
 
-pub left_next : (p : ProgramView) (r : Refusal) (around : StmtContext) (xs : List Stmt) (i : ℕ) (x : Stmt) → i < length xs → x ≡ get_or xs i x
+pub left_next : (p : ProgramView) (r : SoughtRefusal) (around : StmtContext) (xs : List Stmt) (i : ℕ) (x : Stmt) → i < length xs → x ≡ get_or xs i x
     → Left p r around xs i → IsFound p r (inside p around (statement_of x)) None → Left p r around xs (i + 1)
 left_next p r around xs i x lt here left none o others =
     left o (subst (λ l. IsFound p r l o) (sym (from_here p around xs i x lt here)) (found_right p r _ _ o none others))
 
-pub left_found : (p : ProgramView) (r : Refusal) (around : StmtContext) (xs : List Stmt) (i : ℕ) (x : Stmt) (v : Vec RefusalReason Global) → i < length xs → x ≡ get_or xs i x
+pub left_found : (p : ProgramView) (r : SoughtRefusal) (around : StmtContext) (xs : List Stmt) (i : ℕ) (x : Stmt) (v : Vec RefusalReason Global) → i < length xs → x ≡ get_or xs i x
     → Left p r around xs i → IsFound p r (inside p around (statement_of x)) (Some v) → IsFound p r (inside_all p around (numbered_stms (map statement_of xs))) (Some v)
 left_found p r around xs i x v lt here left found =
     left (Some v) (subst (λ l. IsFound p r l (Some v)) (sym (from_here p around xs i x lt here)) (found_left p r _ _ v found))
 
-pub left_last : (p : ProgramView) (r : Refusal) (around : StmtContext) (xs : List Stmt) (i : ℕ) → length xs ≤ i → Left p r around xs i
+pub left_last : (p : ProgramView) (r : SoughtRefusal) (around : StmtContext) (xs : List Stmt) (i : ℕ) → length xs ≤ i → Left p r around xs i
     → IsFound p r (inside_all p around (numbered_stms (map statement_of xs))) None
 left_last p r around xs i le left =
     left None (subst (λ l. IsFound p r (inside_all p around (numbered_stms (map statement_of l))) None) (sym (drop_all i xs le)) (found_nothing p r))
@@ -87,29 +86,29 @@ left_last p r around xs i le left =
 -- ---- at a call
 
 -- the statement itself
-pub found_it : (p : ProgramView) (r : Refusal) (x : StmtInContext) (v : Vec RefusalReason Global) → IsRefusedAs p r x → v.items ≡ statement_reasons p x r
+pub found_it : (p : ProgramView) (r : SoughtRefusal) (x : StmtInContext) (v : Vec RefusalReason Global) → IsRefusedAs p r x → v.items ≡ reasons_of_statement r p x
     → IsFound p r (x ∷ []) (Some v)
 found_it p r x v refused is = (x, (0, omega arith, refl), refused, is)
 
 -- what is found in the second list is found in both
-pub then_right : (p : ProgramView) (r : Refusal) (xs ys : List StmtInContext) (o : Result (Option (Vec RefusalReason Global)) Memory) → IsFound p r xs None
+pub then_right : (p : ProgramView) (r : SoughtRefusal) (xs ys : List StmtInContext) (o : Result (Option (Vec RefusalReason Global)) Memory) → IsFound p r xs None
     → IfOk o (IsFound p r ys) → IfOk o (IsFound p r (xs ++ ys))
 then_right p r xs ys (Ok found) none others = found_right p r xs ys found none others
 then_right p r xs ys (Err e) none others = others
 
 -- in a statement
-pub then_nested : (p : ProgramView) (r : Refusal) (around : StmtContext) (x : NumberedStm) (o : Result (Option (Vec RefusalReason Global)) Memory)
+pub then_nested : (p : ProgramView) (r : SoughtRefusal) (around : StmtContext) (x : NumberedStm) (o : Result (Option (Vec RefusalReason Global)) Memory)
     → IsFound p r (stands around x ∷ []) None → IfOk o (IsFound p r (nested p around x)) → IfOk o (IsFound p r (inside p around x))
 then_nested p r around x o none others =
     subst (λ l. IfOk o (IsFound p r l)) (sym (whole_is p around x)) (then_right p r (stands around x ∷ []) (nested p around x) o none others)
 
 -- the same statements
-pub same_found : (p : ProgramView) (r : Refusal) (xs ys : List StmtInContext) (o : Result (Option (Vec RefusalReason Global)) Memory) → xs ≡ ys
+pub same_found : (p : ProgramView) (r : SoughtRefusal) (xs ys : List StmtInContext) (o : Result (Option (Vec RefusalReason Global)) Memory) → xs ≡ ys
     → IfOk o (IsFound p r xs) → IfOk o (IsFound p r ys)
 same_found p r xs ys o is found = subst (λ l. IfOk o (IsFound p r l)) is found
 
 -- in another context that is the same
-pub moved_found : (p q : ProgramView) (r : Refusal) (a b : StmtContext) (x y : NumberedStm) (o : Result (Option (Vec RefusalReason Global)) Memory) → q ≡ p → a ≡ b → x ≡ y
+pub moved_found : (p q : ProgramView) (r : SoughtRefusal) (a b : StmtContext) (x y : NumberedStm) (o : Result (Option (Vec RefusalReason Global)) Memory) → q ≡ p → a ≡ b → x ≡ y
     → IfOk o (IsFound q r (inside q a x)) → IfOk o (IsFound p r (inside p b y))
 moved_found p q r a b x y o is_p is_a is_x found =
     subst (λ z. IfOk o (IsFound p r (inside p b z))) is_x
@@ -130,9 +129,9 @@ for_is at (Some first) c None body = refl
 for_is at (Some first) c (Some update) body = refl
 
 -- from a part of the list to all of it
-pub some_same : (p : ProgramView) (r : Refusal) (xs ys : List StmtInContext) (v : Vec RefusalReason Global) → xs ≡ ys → IsFound p r xs (Some v) → IsFound p r ys (Some v)
+pub some_same : (p : ProgramView) (r : SoughtRefusal) (xs ys : List StmtInContext) (v : Vec RefusalReason Global) → xs ≡ ys → IsFound p r xs (Some v) → IsFound p r ys (Some v)
 some_same p r xs ys v is found = subst (λ l. IsFound p r l (Some v)) is found
 
 -- in the second of two lists
-pub some_right : (p : ProgramView) (r : Refusal) (xs ys : List StmtInContext) (v : Vec RefusalReason Global) → IsFound p r ys (Some v) → IsFound p r (xs ++ ys) (Some v)
+pub some_right : (p : ProgramView) (r : SoughtRefusal) (xs ys : List StmtInContext) (v : Vec RefusalReason Global) → IsFound p r ys (Some v) → IsFound p r (xs ++ ys) (Some v)
 some_right p r xs ys v (x, among, refused, is) = (x, Contains-append_right xs ys x among, refused, is)

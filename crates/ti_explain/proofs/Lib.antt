@@ -1,3 +1,5 @@
+pub mod ArgumentLaws
+pub mod ClassLookups
 pub mod Explained
 pub mod FoundLaws
 pub mod MainLaws

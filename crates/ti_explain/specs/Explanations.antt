@@ -1,5 +1,4 @@
--- What an explanation of a text is: its refusal, with the reasons for it. Each phase that refuses says which reasons there are; so far,
--- there are reasons for the rules of the grammar, of names and of single values, and none for the others.
+-- What an explanation of a text is: its refusal, with the reasons for it. Each phase that refuses says which reasons there are.
 use Rattle.std.specs.Prelude.{◌≡◌, ℕ, List, [], map, Contains, Option, Some, None, Result, Ok, Err}
 use Rattle.ti_base.specs.declared.memory.Memory.{Memory}
 use Rattle.ti_syntax.specs.declared.token.Token.{Token}
@@ -21,18 +20,20 @@ use Rattle.ti_explain.specs.DepthReasons.{AreTooDeepReasons}
 use Rattle.ti_explain.specs.RefusedNames.{refused_name_reasons}
 use Rattle.ti_explain.specs.ReasonSpans.{without_len, HasLengths}
 use Rattle.ti_explain.specs.SingleReasons.{AreSingleReasons}
+use Rattle.ti_explain.specs.TypeReasons.{AreTypeReasons}
 
 -- the reasons for the first refusal of a program by the rules of types and qualifiers, or else by those of single values
-pub data AreProgramReasons (p : ProgramView) (refusal : Refusal) : List RefusalReason → Type 0 where
-  of_types : IsFirstRefusal (Contains (type_refusals p)) refusal → AreProgramReasons p refusal []
+pub data AreProgramReasons (tree : TextTree) (p : ProgramView) (refusal : Refusal) : List RefusalReason → Type 0 where
+  of_types : {reasons : List RefusalReason} → IsFirstRefusal (Contains (type_refusals p)) refusal → AreTypeReasons tree p refusal reasons
+      → AreProgramReasons tree p refusal reasons
   of_single : {reasons : List RefusalReason} → type_refusals p ≡ [] → IsFirstRefusal (Contains (single_refusals p)) refusal
-      → AreSingleReasons p refusal reasons → AreProgramReasons p refusal reasons
+      → AreSingleReasons p refusal reasons → AreProgramReasons tree p refusal reasons
 
 -- the reasons for the refusal of a tree by the rules of names, or else of its program
 pub data AreTreeReasons (tree : TextTree) (refusal : Refusal) : List RefusalReason → Type 0 where
   of_names : IsFirstRefusal (BreaksNames tree) refusal → AreTreeReasons tree refusal (refused_name_reasons tree refusal)
   of_program : {program : ProgramView} {reasons : List RefusalReason} → HasNone (BreaksNames tree) → Numbers tree program
-      → AreProgramReasons program refusal reasons → AreTreeReasons tree refusal reasons
+      → AreProgramReasons tree program refusal reasons → AreTreeReasons tree refusal reasons
 
 -- the reasons for the refusal of a list of tokens that doesn't fit the grammar
 pub data AreTokenReasons (tokens : List Token) (refusal : Refusal) : List RefusalReason → Type 0 where

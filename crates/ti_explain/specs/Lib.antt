@@ -3,9 +3,11 @@ pub mod DeclaredNames
 pub mod DepthReasons
 pub mod Expected
 pub mod Explanations
+pub mod FaultyParts
 pub mod FirstEffects
 pub mod MainReasons
 pub mod Mirrors
+pub mod MisplacedWords
 pub mod NameReasons
 pub mod NameUses
 pub mod NearSpelling
@@ -14,3 +16,5 @@ pub mod ReasonSpans
 pub mod Redeclared
 pub mod RefusedNames
 pub mod SingleReasons
+pub mod TypeReasons
+pub mod TypeTexts

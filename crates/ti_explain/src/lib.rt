@@ -6,9 +6,11 @@ mod declared_names;
 mod depth;
 mod effects;
 mod expected;
+mod faulty_parts;
 mod laws;
 mod main_reasons;
 mod methods;
+mod misplaced_words;
 mod name_reason;
 mod name_reasons;
 mod name_uses;
@@ -21,6 +23,10 @@ mod refused_names;
 mod search;
 mod spans;
 mod statement;
+mod type_reason;
+mod type_reasons;
+mod type_statement;
+mod type_texts;
 
 pub use laws::{
     effects_are_named, main_is_explained, plain_parts_are_named, singles_are_explained,
@@ -32,3 +38,4 @@ pub use reason::{
     ReasonKind, ReasonSpan, RefusalReason, RefusalReasons,
 };
 pub use spans::explanation_of;
+pub use type_reason::{TargetDefect, TypeReason, ValueDefect, WordDefect};

@@ -10,7 +10,7 @@ ghost use Rattle.ti_explain.specs.Mirrors.Trials.{AreTokens};
 
 use crate::depth::too_deep_reasons;
 use crate::expected::expected_tokens;
-use crate::methods::single_reasons;
+use crate::methods::{single_reasons, type_reasons};
 use crate::reason::{Explanation, RefusalReasons};
 use crate::refused_names::refused_name_reasons;
 use crate::spans::explanation_of;
@@ -38,27 +38,38 @@ fn unexplained(alloc: Global, refusal: Refusal) -> RefusalReasons
 
 // The first refusal of a program by the rules of single values, with its reasons. The program is checked as a copy, since a check that
 // refuses drops it.
-fn explain_single(alloc: Global, program: Program) -> Result<Option<RefusalReasons>, Memory>
+fn explain_single(
+    alloc: Global,
+    tree: &Tree,
+    program: Program,
+) -> Result<Option<RefusalReasons>, Memory>
     requires { type_refusals (program_of program.parts) ≡ [] }
-    ensures { ProgramExplained (program_of program.parts) result }
+    ensures { ProgramExplained (tree_of tree.now) (program_of program.parts) result }
 {
     match check(alloc, program.copy(alloc)?) {
         Ok(_) => Ok(None),
         Err(CheckErr::Refused(refusal)) => {
-            let reasons = single_reasons(alloc, &program, refusal)?;
+            let reasons = single_reasons(alloc, tree, &program, refusal)?;
             Ok(Some(RefusalReasons { refusal, reasons }))
         }
         Err(CheckErr::Memory) => Err(Memory),
     }
 }
 
-// The explanation of a program.
-fn explain_program(alloc: Global, program: Program) -> Result<Option<RefusalReasons>, Memory>
-    ensures { ProgramExplained (program_of program.parts) result }
+// The explanation of a program, which is that of the tree.
+fn explain_program(
+    alloc: Global,
+    tree: &Tree,
+    program: Program,
+) -> Result<Option<RefusalReasons>, Memory>
+    ensures { ProgramExplained (tree_of tree.now) (program_of program.parts) result }
 {
     match check_types(alloc, &program) {
-        Ok(()) => explain_single(alloc, program),
-        Err(CheckErr::Refused(refusal)) => Ok(Some(unexplained(alloc, refusal))),
+        Ok(()) => explain_single(alloc, tree, program),
+        Err(CheckErr::Refused(refusal)) => {
+            let reasons = type_reasons(alloc, tree, &program, refusal)?;
+            Ok(Some(RefusalReasons { refusal, reasons }))
+        }
         Err(CheckErr::Memory) => Err(Memory),
     }
 }
@@ -69,7 +80,7 @@ fn explain_tree(alloc: Global, tree: &Tree) -> Result<Option<RefusalReasons>, Me
 {
     one_program();
     match resolve(alloc, tree) {
-        Ok(program) => explain_program(alloc, program),
+        Ok(program) => explain_program(alloc, tree, program),
         Err(NameErr::Refused(refusal)) => {
             let reasons = refused_name_reasons(alloc, tree, refusal)?;
             Ok(Some(RefusalReasons { refusal, reasons }))

@@ -1,6 +1,7 @@
 // Explanations of a refusal, as data: where to look and what is there.
 
 use crate::name_reason::NameReason;
+use crate::type_reason::TypeReason;
 use ti_base::Place;
 use ti_rules::Refusal;
 use ti_syntax::Spelled;
@@ -134,6 +135,8 @@ pub enum ReasonKind {
     Name(NameReason),
     /// In mode infer, this follows from the reason before it.
     Link(ChainLink),
+    /// What there is for a refusal by a rule of types or qualifiers.
+    Typing(TypeReason),
 }
 
 /// A reason for a refusal: a position in the text, and what is there.

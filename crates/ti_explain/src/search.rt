@@ -1,4 +1,4 @@
-// The search for the statement that breaks a rule of single values, with its context.
+// The search for the statement that breaks a rule of types or of single values, with its context.
 ghost use Rattle.std.specs.Prelude.{◌≡◌, ◌↔◌, ◌++◌, ◌∷◌, [], map, Some, IsTrue, IfOk};
 ghost use Rattle.std.specs.Option.{option_map, option_and_then};
 ghost use Rattle.ti_lang.specs.Program.Scope.{in_scope_of, contents_of, this_of};
@@ -8,22 +8,35 @@ ghost use Rattle.ti_lang.specs.Typing.Effects.{return_acts, jump_acts};
 ghost use Rattle.ti_lang.specs.Typing.Expressions.{operand_type};
 ghost use Rattle.ti_lang.specs.Typing.Kinds.{domain_dim};
 ghost use Rattle.ti_lang.specs.Typing.TyRef.{ty_view};
+ghost use Rattle.ti_rules.specs.Mirrors.First.{earliest};
 ghost use Rattle.ti_rules.specs.StmtInContext.{stands, scope_of, with_foreach_variable, variables_inside, inside, inside_maybe, inside_all};
 ghost use Rattle.ti_single.specs.Contexts.{program_at, around_of, scope_at};
 ghost use Rattle.ti_single.specs.EffectsAt.{effects_in_loop};
 ghost use Rattle.ti_single.specs.Mirrors.Maybe.{maybe_in};
-ghost use Rattle.ti_explain.specs.Mirrors.Found.{IsFound, in_this_loop, nested};
+ghost use Rattle.ti_explain.specs.Mirrors.Found.{own_refusals, reasons_of_statement, IsFound, in_this_loop, nested};
 
 use crate::effects::jump_has_inside;
 use crate::reason::RefusalReason;
 use crate::statement::statement_reasons;
+use crate::type_statement::type_statement_reasons;
 use std::alloc::Global;
 use ti_base::Memory;
+use ti_check::statement_refusal;
 use ti_lang::program::{Expr, InScope, Scope, Stmt};
 use ti_lang::typing::TyRef;
 use ti_rules::Refusal;
 use ti_single::{SingleContext, deref_stmt, deref_stmts, effects_in_loop, stmt_effects, this_of};
+use ti_syntax::tree::Tree;
 use ti_types::TypeChecker;
+
+/// What is searched for: what is refused so, by the rules of types and qualifiers or else by those of single values. The tree is that of the
+/// program.
+#[derive(Clone, Copy)]
+pub struct SoughtRefusal<'a> {
+    pub by_types: bool,
+    pub refusal: Refusal,
+    pub tree: &'a Tree,
+}
 
 // ---- contexts
 
@@ -140,19 +153,47 @@ pub fn is_refused_as(found: Option<Refusal>, refusal: Refusal) -> bool
     found == Some(refusal)
 }
 
+// The first refusal of a statement by itself, by the rules that are searched.
+fn own_refusal(by_types: bool, site: SingleContext<'_>, stmt: &Stmt) -> Option<Refusal>
+    ensures { result ≡ earliest (own_refusals by_types (program_at site.entry) (stands (around_of site.entry) (statement_of stmt.now))) }
+{
+    if by_types {
+        statement_refusal(site, stmt)
+    } else {
+        let own = stmt_effects(site.program, this_of(site.method), stmt);
+        let inside = effects_in_loop(site.program, site.method, stmt);
+        site.refusal(stmt, own, inside)
+    }
+}
+
+// The reasons of a statement, by the rules that are searched.
+fn reasons_here(
+    alloc: Global,
+    sought: SoughtRefusal<'_>,
+    site: SingleContext<'_>,
+    stmt: &Stmt,
+) -> Result<Vec<RefusalReason>, Memory>
+    ensures { IfOk result (λ v. v.items ≡ reasons_of_statement sought.entry (program_at site.entry) (stands (around_of site.entry)
+        (statement_of stmt.now))) }
+{
+    if sought.by_types {
+        type_statement_reasons(alloc, sought.tree, site, sought.refusal, stmt)
+    } else {
+        statement_reasons(alloc, site, sought.refusal, stmt)
+    }
+}
+
 // The reasons of a statement if it is refused so by itself.
 fn found_here(
     alloc: Global,
-    refusal: Refusal,
+    sought: SoughtRefusal<'_>,
     site: SingleContext<'_>,
     stmt: &Stmt,
 ) -> Result<Option<Vec<RefusalReason>>, Memory>
-    ensures { IfOk result (λ o. IsFound (program_at site.entry) refusal (stands (around_of site.entry) (statement_of stmt.now) ∷ []) o) }
+    ensures { IfOk result (λ o. IsFound (program_at site.entry) sought.entry (stands (around_of site.entry) (statement_of stmt.now) ∷ []) o) }
 {
-    let own = stmt_effects(site.program, this_of(site.method), stmt);
-    let inside = effects_in_loop(site.program, site.method, stmt);
-    if is_refused_as(site.refusal(stmt, own, inside), refusal) {
-        Ok(Some(statement_reasons(alloc, site, refusal, stmt)?))
+    if is_refused_as(own_refusal(sought.by_types, site, stmt), sought.refusal) {
+        Ok(Some(reasons_here(alloc, sought, site, stmt)?))
     } else {
         Ok(None)
     }
@@ -162,15 +203,15 @@ fn found_here(
 #[cycle(search)]
 pub fn found_among(
     alloc: Global,
-    refusal: Refusal,
+    sought: SoughtRefusal<'_>,
     site: SingleContext<'_>,
     stmts: &[Stmt],
 ) -> Result<Option<Vec<RefusalReason>>, Memory>
-    ensures { IfOk result (λ o. IsFound (program_at site.entry) refusal (inside_all (program_at site.entry) (around_of site.entry)
+    ensures { IfOk result (λ o. IsFound (program_at site.entry) sought.entry (inside_all (program_at site.entry) (around_of site.entry)
         (numbered_stms (map statement_of stmts.now))) o) }
 {
     for x in stmts {
-        if let Some(found) = found_in(alloc, refusal, site, x)? {
+        if let Some(found) = found_in(alloc, sought, site, x)? {
             return Ok(Some(found));
         }
     }
@@ -180,15 +221,15 @@ pub fn found_among(
 #[cycle(search)]
 fn found_in_maybe(
     alloc: Global,
-    refusal: Refusal,
+    sought: SoughtRefusal<'_>,
     site: SingleContext<'_>,
     stmt: &Option<Box<Stmt>>,
 ) -> Result<Option<Vec<RefusalReason>>, Memory>
-    ensures { IfOk result (λ o. IsFound (program_at site.entry) refusal (inside_maybe (program_at site.entry) (around_of site.entry)
+    ensures { IfOk result (λ o. IsFound (program_at site.entry) sought.entry (inside_maybe (program_at site.entry) (around_of site.entry)
         (maybe_in stmt.now)) o) }
 {
     match stmt {
-        Some(x) => found_in(alloc, refusal, site, deref_stmt(x)),
+        Some(x) => found_in(alloc, sought, site, deref_stmt(x)),
         None => Ok(None),
     }
 }
@@ -196,44 +237,44 @@ fn found_in_maybe(
 #[cycle(search)]
 fn found_in(
     alloc: Global,
-    refusal: Refusal,
+    sought: SoughtRefusal<'_>,
     site: SingleContext<'_>,
     stmt: &Stmt,
 ) -> Result<Option<Vec<RefusalReason>>, Memory>
-    ensures { IfOk result (λ o. IsFound (program_at site.entry) refusal (inside (program_at site.entry) (around_of site.entry)
+    ensures { IfOk result (λ o. IsFound (program_at site.entry) sought.entry (inside (program_at site.entry) (around_of site.entry)
         (statement_of stmt.now)) o) }
 {
-    if let Some(found) = found_here(alloc, refusal, site, stmt)? {
+    if let Some(found) = found_here(alloc, sought, site, stmt)? {
         return Ok(Some(found));
     }
-    found_nested(alloc, refusal, site, stmt)
+    found_nested(alloc, sought, site, stmt)
 }
 
 // In the statements in a statement.
 #[cycle(search)]
 fn found_nested(
     alloc: Global,
-    refusal: Refusal,
+    sought: SoughtRefusal<'_>,
     site: SingleContext<'_>,
     stmt: &Stmt,
 ) -> Result<Option<Vec<RefusalReason>>, Memory>
-    ensures { IfOk result (λ o. IsFound (program_at site.entry) refusal (nested (program_at site.entry) (around_of site.entry)
+    ensures { IfOk result (λ o. IsFound (program_at site.entry) sought.entry (nested (program_at site.entry) (around_of site.entry)
         (statement_of stmt.now)) o) }
 {
     match stmt {
-        Stmt::Block(body) => found_among(alloc, refusal, site, deref_stmts(body)),
+        Stmt::Block(body) => found_among(alloc, sought, site, deref_stmts(body)),
         Stmt::If {
             then,
             otherwise,
             ..
         } => {
-            if let Some(found) = found_in(alloc, refusal, site, deref_stmt(then))? {
+            if let Some(found) = found_in(alloc, sought, site, deref_stmt(then))? {
                 return Ok(Some(found));
             }
-            found_in_maybe(alloc, refusal, site, otherwise)
+            found_in_maybe(alloc, sought, site, otherwise)
         }
         Stmt::While { body, .. } => {
-            found_in(alloc, refusal, in_loop(site, stmt), deref_stmt(body))
+            found_in(alloc, sought, in_loop(site, stmt), deref_stmt(body))
         }
         Stmt::For {
             first,
@@ -241,13 +282,13 @@ fn found_nested(
             body,
             ..
         } => {
-            if let Some(found) = found_in_maybe(alloc, refusal, site, first)? {
+            if let Some(found) = found_in_maybe(alloc, sought, site, first)? {
                 return Ok(Some(found));
             }
-            if let Some(found) = found_in_maybe(alloc, refusal, site, update)? {
+            if let Some(found) = found_in_maybe(alloc, sought, site, update)? {
                 return Ok(Some(found));
             }
-            found_in(alloc, refusal, in_loop(site, stmt), deref_stmt(body))
+            found_in(alloc, sought, in_loop(site, stmt), deref_stmt(body))
         }
         Stmt::Foreach {
             variable,
@@ -257,7 +298,7 @@ fn found_nested(
         } => {
             let scope = foreach_scope(alloc, site, *variable, domain)?;
             let within = with_scope(in_loop(site, stmt), &scope);
-            found_in(alloc, refusal, within, deref_stmt(body))
+            found_in(alloc, sought, within, deref_stmt(body))
         }
         Stmt::Empty
         | Stmt::Declare { .. }

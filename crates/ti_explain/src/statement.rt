@@ -85,9 +85,9 @@ fn single_operand<'a>(stmt: &'a Stmt) -> Option<&'a Expr>
     }
 }
 
-// The arguments of a call; none if the expression is no call.
+/// The arguments of a call; none if the expression is no call.
 #[tactic(auto, using(ti_lang::proofs::Lemmas::program_bridges))]
-fn arguments_of_whole<'a>(expr: &'a Expr) -> Option<&'a [Expr]>
+pub fn arguments_of_whole<'a>(expr: &'a Expr) -> Option<&'a [Expr]>
     ensures { option_map_or (λ args. numbered_exps (map expression_of args.now)) result NoExp
         ≡ arguments_of_whole (expression_of expr.now) }
 {

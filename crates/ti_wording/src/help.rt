@@ -5,8 +5,8 @@ use crate::chain_labels::chain_help;
 use crate::grammar_help::{byte_help, grammar_help};
 use crate::memory::NoMemory;
 use crate::name_labels::name_help;
-use crate::token_words::type_help;
 use crate::tokens::{display_text, has_word, line_of, token_at};
+use crate::type_labels::type_help;
 use std::alloc::{AllocError, Global};
 use ti_base::Place;
 use ti_explain::{ChainLink, Explanation, PlainCause, ReasonKind, ReasonSpan};
@@ -173,7 +173,7 @@ fn link_help(text: &[u8], first: &ReasonSpan, link: ChainLink) -> &'static str {
     unless_empty(chain_help(link), Rule::B1)
 }
 
-// The help for an error without reasons, by its token, else by its rule.
+// The help for an error whose reasons don't say how it is fixed by themselves: by all of them, by its token, or by its rule.
 fn refusal_help(text: &[u8], explanation: &Explanation) -> &'static str {
     let Refusal { rule, place } = explanation.refusal;
     match rule {

@@ -5,8 +5,8 @@ use crate::chain_labels::link_label;
 use crate::expectation::expectation;
 use crate::memory::NoMemory;
 use crate::name_labels::{own_label, push_name_reason};
-use crate::token_words::type_label;
 use crate::tokens::{display_text, token_at};
+use crate::type_labels::{push_own_types, push_type_reason, type_label};
 use std::alloc::{AllocError, Global};
 use ti_explain::{Explanation, GlobalEffect, PlainCause, ReasonKind, ReasonSpan};
 use ti_rules::Rule;
@@ -129,6 +129,7 @@ pub fn reason_label(alloc: Global, kind: &ReasonKind, token: &str) -> Result<Str
         ReasonKind::Plain(cause) => push_cause(&mut label, *cause, token)?,
         ReasonKind::Effect(effect) => push_effect(&mut label, *effect, token)?,
         ReasonKind::Name(reason) => push_name_reason(&mut label, reason, token)?,
+        ReasonKind::Typing(reason) => push_type_reason(&mut label, reason, token)?,
         ReasonKind::PlainDeclaration => {
             label.push('`')?;
             label.push_str(token)?;
@@ -194,5 +195,6 @@ pub fn error_label(
             label.push_str(", ...")?;
         }
     }
+    push_own_types(&mut label, explanation)?;
     Ok(label)
 }

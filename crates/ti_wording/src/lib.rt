@@ -9,8 +9,8 @@ mod help;
 mod labels;
 mod memory;
 mod name_labels;
-mod token_words;
 mod tokens;
+mod type_labels;
 
 pub use chain_labels::{is_chain, link_label};
 pub use help::{help_of, rule_help};
@@ -18,3 +18,4 @@ pub use labels::{error_label, primary_label, reason_label};
 pub use memory::NoMemory;
 pub use name_labels::is_own;
 pub use tokens::{display_text, line_of, token_at};
+pub use type_labels::is_said;

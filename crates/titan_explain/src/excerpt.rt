@@ -6,7 +6,7 @@ use ti_base::Place;
 use ti_explain::{Explanation, ReasonKind, ReasonSpan};
 use ti_rules::{Refusal, rule_text};
 use ti_wording::{
-    NoMemory, display_text, error_label, help_of, is_chain, is_own, line_of, link_label,
+    NoMemory, display_text, error_label, help_of, is_chain, is_own, is_said, line_of, link_label,
     reason_label, token_at,
 };
 
@@ -97,7 +97,7 @@ fn marks_of(
     marks.push(error_mark(alloc, text, explanation)?)?;
     for (i, reason) in explanation.reasons.iter().enumerate() {
         let next = explanation.reasons.get(i.saturating_add(1));
-        if marks.len() < MOST_MARKS && is_marked(reason, next) {
+        if marks.len() < MOST_MARKS && is_marked(reason, next) && !is_said(explanation, reason) {
             marks.push(reason_mark(alloc, text, reason)?)?;
         }
     }

@@ -13,10 +13,10 @@ use Rattle.ti_explain.specs.declared.reason.RefusalReasons.{RefusalReasons}
 use Rattle.ti_explain.specs.Explanations.{AreProgramReasons, AreTreeReasons, AreTokenReasons, AreReasons}
 
 -- of a program
-abbrev pub ProgramExplained : ProgramView → Result (Option RefusalReasons) Memory → Type 0
-ProgramExplained p (Ok None) = BreaksNothing p
-ProgramExplained p (Ok (Some e)) = AreProgramReasons p e.refusal e.reasons.items
-ProgramExplained p (Err memory) = Unit {0}
+abbrev pub ProgramExplained : TextTree → ProgramView → Result (Option RefusalReasons) Memory → Type 0
+ProgramExplained tree p (Ok None) = BreaksNothing p
+ProgramExplained tree p (Ok (Some e)) = AreProgramReasons tree p e.refusal e.reasons.items
+ProgramExplained tree p (Err memory) = Unit {0}
 
 -- a tree that breaks no rule
 pub record IsFine (tree : TextTree) : Type 0 where

@@ -13,6 +13,6 @@ pub returns : goal.returns
 returns c =
     let p = program_of c.args.program.now.parts in
     let m = numbered_method_of c.method_at-method.result.now in
-    then_at p c.args.refusal c.args.index m c.found_in_site.result c.method_at-method.ensures
-    (subst (λ n. IfOk c.found_in_site.result (λ (o : Option (Vec RefusalReason Global)). IsFoundInMethod p c.args.refusal n o)) (ap (λ (a : StmtContext). a.method) c.site_of.ensures.around)
-    (subst (λ q. IfOk c.found_in_site.result (λ (o : Option (Vec RefusalReason Global)). IsFoundInMethod q c.args.refusal (around_of c.site_of.result).method o)) c.site_of.ensures.program c.found_in_site.ensures))
+    then_at p c.args.sought c.args.index m c.found_in_site.result c.method_at-method.ensures
+    (subst (λ n. IfOk c.found_in_site.result (λ (o : Option (Vec RefusalReason Global)). IsFoundInMethod p c.args.sought n o)) (ap (λ (a : StmtContext). a.method) c.site_of.ensures.around)
+    (subst (λ q. IfOk c.found_in_site.result (λ (o : Option (Vec RefusalReason Global)). IsFoundInMethod q c.args.sought (around_of c.site_of.result).method o)) c.site_of.ensures.program c.found_in_site.ensures))
