@@ -4,15 +4,15 @@ use Rattle.std.proofs.lemmas.List.{take_more}
 use Rattle.ti_base.specs.Places.{place_of}
 use Rattle.ti_rules.specs.declared.refusal.Refusal.{Refusal}
 use Rattle.ti_rules.specs.LexicalRefusals.{most_bytes}
-use Rattle.ti_lex.specs.TokenSpans.{IsNoPosition}
+use Rattle.ti_lex.specs.TokenSpans.{EndsToken, IsNoPosition}
 use Rattle.ti_explain.specs.declared.reason.ReasonSpan.{ReasonSpan}
 use Rattle.ti_lsp.specs.declared.diagnostic.Related.{Related}
 use Rattle.ti_diagnostics.specs.Rejections.{AreRelated, IsRelatedTo, IsUnrelated, most_related}
 use Rattle.ti_diagnostics.specs.Rejections.AreRelated.{no_reason, shown, not_shown}
 
 pub related_to : (text : List ℕ) (reason : ReasonSpan) (related : Related) → place_of text related.start ≡ reason.place
-    → related.end ≡ related.start + reason.len → IsRelatedTo text reason related
-related_to text reason related start end = record { start = start; end = end }
+    → EndsToken text related.start related.end → related.end ≤ length text → IsRelatedTo text reason related
+related_to text reason related start range within = record { start = start; range = range; within = within }
 
 pub too_many : (text : List ℕ) (refusal : Refusal) (count : ℕ) (reason : ReasonSpan) → most_related ≤ count → IsUnrelated text refusal count reason
 too_many text refusal count reason many = inl many

@@ -1,5 +1,5 @@
 -- Diagnostics of rejected sources.
-use Rattle.std.specs.Prelude.{◌≡◌, ◌⊎◌, ℕ, ◌+◌, ◌≤◌, ◌<◌, List, [], ◌∷◌, ◌++◌, length, Ok, Some}
+use Rattle.std.specs.Prelude.{◌≡◌, ◌⊎◌, ℕ, ◌≤◌, ◌<◌, List, [], ◌∷◌, ◌++◌, length, Ok, Some}
 use Rattle.ti_base.specs.declared.place.Place.{Place}
 use Rattle.ti_base.specs.Places.{place_of}
 use Rattle.ti_rules.specs.declared.refusal.Refusal.{Refusal}
@@ -22,15 +22,16 @@ IsPosition text place = (k : ℕ) × (k ≤ length text) × (place_of text k ≡
 abbrev pub most_related : ℕ
 most_related = 16
 
--- the place is that of a reason: it begins at the reason's position, and has the length of the token there
+-- the place is that of a reason: it begins at the reason's position, and ends with the token there
 pub record IsRelatedTo (text : List ℕ) (reason : ReasonSpan) (related : Related) : Type 0 where
   pub start : place_of text related.start ≡ reason.place
-  pub end : related.end ≡ related.start + reason.len
+  pub range : EndsToken text related.start related.end
+  pub within : related.end ≤ length text
 
 -- a reason after this many related places isn't shown: there are as many as there may be, or it is at the error's position, or at none of the text
 abbrev pub IsUnrelated : List ℕ → Refusal → ℕ → ReasonSpan → Type 0
 IsUnrelated text refusal count reason =
-    (most_related ≤ count) ⊎ (reason.place ≡ refusal.place) ⊎ (length text ≤ most_bytes → IsNoPosition text reason.place)
+    (most_related ≤ count) ⊎ ((reason.place ≡ refusal.place) ⊎ (length text ≤ most_bytes → IsNoPosition text reason.place))
 
 -- these are the related places of an error with these reasons, in the same order
 pub data AreRelated (text : List ℕ) (refusal : Refusal) : List ReasonSpan → List Related → Type 0 where

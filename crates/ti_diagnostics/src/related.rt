@@ -5,10 +5,9 @@ ghost use Rattle.ti_diagnostics.specs.Rejections.{AreRelated, IsRelatedTo, IsUnr
 use std::alloc::Global;
 use ti_base::{Memory, Place};
 use ti_explain::{Explanation, ReasonSpan};
-use ti_lex::offset_of;
+use ti_lex::{end_of, offset_of};
 use ti_lsp::Related;
-use ti_rules::Refusal;
-use ti_wording::{NoMemory, display_text, is_own, reason_label, token_at};
+use ti_wording::{display_text, is_own, is_said, reason_label, token_at};
 
 // The number of related places of an error, at most: the first ones.
 const MOST_RELATED: usize = 16;
@@ -39,26 +38,29 @@ fn label_of(alloc: Global, text: &[u8], reason: &ReasonSpan) -> Result<String, M
 fn place_of_reason(
     alloc: Global,
     text: &[u8],
-    refusal: Refusal,
+    explanation: &Explanation,
     count: usize,
     reason: &ReasonSpan,
 ) -> Result<Option<Related>, Memory>
     ensures some { IfOk result (λ o. IfSome o (IsRelatedTo text.now reason.now)) }
-    ensures none { result ≡ Ok None → IsUnrelated text.now refusal count reason.now }
+    ensures none { result ≡ Ok None
+        → IsUnrelated text.now explanation.now.refusal count reason.now }
 {
     if count >= MOST_RELATED {
         return Ok(None);
     }
-    if is_same(reason.place, refusal.place) && is_own(&reason.kind) {
+    let is_there = is_same(reason.place, explanation.refusal.place);
+    if is_there && (is_own(&reason.kind) || is_said(explanation, reason)) {
         return Ok(None);
     }
     let Some(start) = offset_of(text, reason.place) else {
         return Ok(None);
     };
+    let end = end_of(alloc, text, start)?;
     let message = label_of(alloc, text, reason)?;
     Ok(Some(Related {
         start,
-        end: start.saturating_add(reason.len),
+        end,
         message,
     }))
 }
@@ -73,10 +75,9 @@ pub fn related_places(
     ensures { IfOk result (λ v. AreRelated text.now explanation.now.refusal
         explanation.now.reasons.items v.items) }
 {
-    let refusal = explanation.refusal;
     let mut places = Vec::new(alloc);
     for reason in &explanation.reasons {
-        if let Some(place) = place_of_reason(alloc, text, refusal, places.len(), reason)? {
+        if let Some(place) = place_of_reason(alloc, text, explanation, places.len(), reason)? {
             places.push(place)?;
         }
     }
