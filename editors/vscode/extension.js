@@ -157,11 +157,7 @@ function activate(context) {
     return found && [found].flat().map(toLocation);
   };
 
-  const capabilities = {
-    general: { positionEncodings: ['utf-16'] },
-    textDocument: { publishDiagnostics: { relatedInformation: true } },
-  };
-  current.request('initialize', { processId: process.pid, rootUri: null, capabilities });
+  current.request('initialize', { processId: process.pid, rootUri: null, capabilities: { general: { positionEncodings: ['utf-16'] } } });
   current.notify('initialized', {});
   vscode.workspace.textDocuments.forEach(open);
   context.subscriptions.push(

@@ -1,3 +1,4 @@
 mod Places
 mod Positions
-mod RelatedPlaces
+mod SymbolLists
+mod TokenEnds

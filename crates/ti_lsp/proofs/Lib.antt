@@ -3,5 +3,4 @@ mod Edited
 mod Fixes
 mod Items
 mod Offsets
-mod Shown
 mod Units

@@ -4,7 +4,6 @@
 #![tactic(auto)]
 
 mod analyzer;
-mod client;
 mod code_action;
 mod decoding;
 mod diagnostic;
@@ -12,23 +11,18 @@ mod document;
 mod edit;
 mod hover;
 mod message;
-mod name;
 mod position;
 mod publishing;
 mod response;
 mod session;
-mod suggestion;
 mod symbol;
 
 pub use analyzer::Analyzer;
-pub use client::Client;
-pub use diagnostic::{Diagnostic, Related};
+pub use diagnostic::Diagnostic;
 pub use edit::{Change, TextEdit, apply_changes, apply_edits};
-pub use name::KnownName;
 pub use position::{
     Position, PositionEncoding, TextRange, columns_are_units, offset_at, position_at,
 };
 pub use response::parse_error;
 pub use session::{Phase, Session};
-pub use suggestion::Suggestion;
 pub use symbol::{Symbol, SymbolKind};

@@ -2,13 +2,26 @@
 ghost use Rattle.std.specs.Prelude.{◌+◌, ◌<◌, ◌^◌, All, IfOk, IfSome, length};
 ghost use Rattle.ti_lsp.specs.Symbols.{IsSymbolOf};
 
-use crate::offsets::token_offsets;
-use crate::tokens::{is_kind, is_name};
+use crate::annotations::{is_left_paren, is_name, token_offsets};
+use crate::token_end::end_of;
 use std::alloc::Global;
 use ti_base::Memory;
-use ti_lex::end_of;
 use ti_lsp::{Symbol, SymbolKind};
 use ti_syntax::{Token, TokenKind};
+
+fn is_class_keyword(tokens: &[Token], index: usize) -> bool {
+    match tokens.get(index) {
+        Some(token) => matches!(&token.kind, TokenKind::KeywordClass),
+        None => false,
+    }
+}
+
+fn is_semicolon(tokens: &[Token], index: usize) -> bool {
+    match tokens.get(index) {
+        Some(token) => matches!(&token.kind, TokenKind::Semicolon),
+        None => false,
+    }
+}
 
 // The number of open braces after the token, if there were this many before it.
 fn depth_after(tokens: &[Token], index: usize, depth: u64) -> u64 {
@@ -28,13 +41,13 @@ fn declared_kind(tokens: &[Token], index: usize, depth: u64) -> Option<SymbolKin
     let next = index.saturating_add(1);
     if !is_name(tokens, index) {
         None
-    } else if is_kind(tokens, before, &TokenKind::KeywordClass) {
+    } else if is_class_keyword(tokens, before) {
         Some(SymbolKind::Class)
     } else if depth != 1 {
         None
-    } else if is_kind(tokens, next, &TokenKind::LeftParen) {
+    } else if is_left_paren(tokens, next) {
         Some(SymbolKind::Method)
-    } else if is_kind(tokens, next, &TokenKind::Semicolon) {
+    } else if is_semicolon(tokens, next) {
         Some(SymbolKind::Field)
     } else {
         None
