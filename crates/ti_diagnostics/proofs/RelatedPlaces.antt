@@ -37,10 +37,10 @@ pub one_related : (text : List ℕ) (refusal : Refusal) (reasons : List ReasonSp
     → longer ≡ places ++ related ∷ [] → AreRelated text refusal (take (i + 1) reasons) longer
 one_related text refusal reasons i reason places longer related below is before to long =
     subst (λ (l : List Related). AreRelated text refusal (take (i + 1) reasons) l) (sym long)
-    (subst (λ (l : List ReasonSpan). AreRelated text refusal l (places ++ related ∷ [])) (next reasons i reason below is) (shown before to))
+    (subst (λ (l : List ReasonSpan). AreRelated text refusal l (places ++ related ∷ [])) (next reasons i reason below is) (shown reason before to))
 
 pub one_unrelated : (text : List ℕ) (refusal : Refusal) (reasons : List ReasonSpan) (i : ℕ) (reason : ReasonSpan) (places : List Related)
     → i < length reasons → reason ≡ get_or reasons i reason → AreRelated text refusal (take i reasons) places
     → IsUnrelated text refusal (length places) reason → AreRelated text refusal (take (i + 1) reasons) places
 one_unrelated text refusal reasons i reason places below is before not =
-    subst (λ (l : List ReasonSpan). AreRelated text refusal l places) (next reasons i reason below is) (not_shown before not)
+    subst (λ (l : List ReasonSpan). AreRelated text refusal l places) (next reasons i reason below is) (not_shown reason before not)

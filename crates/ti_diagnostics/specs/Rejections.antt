@@ -36,9 +36,9 @@ IsUnrelated text refusal count reason =
 -- these are the related places of an error with these reasons, in the same order
 pub data AreRelated (text : List ℕ) (refusal : Refusal) : List ReasonSpan → List Related → Type 0 where
   no_reason : AreRelated text refusal [] []
-  shown : {reasons : List ReasonSpan} {reason : ReasonSpan} {places : List Related} {related : Related} → AreRelated text refusal reasons places
+  shown : {reasons : List ReasonSpan} (reason : ReasonSpan) {places : List Related} {related : Related} → AreRelated text refusal reasons places
       → IsRelatedTo text reason related → AreRelated text refusal (reasons ++ reason ∷ []) (places ++ related ∷ [])
-  not_shown : {reasons : List ReasonSpan} {reason : ReasonSpan} {places : List Related} → AreRelated text refusal reasons places
+  not_shown : {reasons : List ReasonSpan} (reason : ReasonSpan) {places : List Related} → AreRelated text refusal reasons places
       → IsUnrelated text refusal (length places) reason → AreRelated text refusal (reasons ++ reason ∷ []) places
 
 -- ---- diagnostics

@@ -65,8 +65,27 @@ fn place_of_reason(
     }))
 }
 
-/// The places of the reasons for an error, in their order.
+// The places of these reasons for an error, in their order.
 #[tactic(auto, using(crate::proofs::RelatedPlaces::none_yet, crate::proofs::RelatedPlaces::one_related, crate::proofs::RelatedPlaces::one_unrelated))]
+fn places_of(
+    alloc: Global,
+    text: &[u8],
+    explanation: &Explanation,
+    reasons: &[ReasonSpan],
+) -> Result<Vec<Related>, Memory>
+    ensures { IfOk result (λ v.
+        AreRelated text.now explanation.now.refusal reasons.now v.items) }
+{
+    let mut places = Vec::new(alloc);
+    for reason in reasons {
+        if let Some(place) = place_of_reason(alloc, text, explanation, places.len(), reason)? {
+            places.push(place)?;
+        }
+    }
+    Ok(places)
+}
+
+/// The places of the reasons for an error, in their order.
 pub fn related_places(
     alloc: Global,
     text: &[u8],
@@ -75,11 +94,6 @@ pub fn related_places(
     ensures { IfOk result (λ v. AreRelated text.now explanation.now.refusal
         explanation.now.reasons.items v.items) }
 {
-    let mut places = Vec::new(alloc);
-    for reason in &explanation.reasons {
-        if let Some(place) = place_of_reason(alloc, text, explanation, places.len(), reason)? {
-            places.push(place)?;
-        }
-    }
+    let places = places_of(alloc, text, explanation, &explanation.reasons)?;
     Ok(places)
 }
