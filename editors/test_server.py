@@ -6,9 +6,11 @@
 Prints each check that fails, and at last how many passed; the status is 1 if one failed, else 0.
 """
 import json
+import re
 import subprocess
 import sys
 import time
+from pathlib import Path
 
 PROGRAM = sys.argv[1]
 GOOD = "class Main { public static single void main(String[] args) { println(1); } }\n"
@@ -19,6 +21,8 @@ BAD = (
 )
 STRAY = "class Main {\n  /* \u00e9\U0001F600 */ ? \n}\n"
 URI = "file:///a.ti"
+RESERVED = set("""boolean break broadcast class continue Domain else false final for foreach if int local long new null Point println private
+    protected public RectDomain return SharedRegion single static String System this Ti true void while""".split())
 failed = []
 count = 0
 
@@ -176,13 +180,13 @@ m, status, _ = run(initialize() + opened(URI, BAD) + request("h", "textDocument/
                    + request(6, "textDocument/hover", {}) + request(7, "textDocument/completion", {})
                    + request(8, "textDocument/codeAction", action(only=["refactor"])) + END)
 by = {x["id"]: x for x in m if "id" in x}
-check("hover", by["h"]["result"]["contents"]["value"],
-      "**S2** a loop with global effects needs a single condition\n\nDeclare the variables of the condition `single`.")
+check("hover", by["h"]["result"]["contents"]["value"].split("\n\n")[0], "**S2** a loop with global effects needs a single condition")
+check("help in a hover", by["h"]["result"]["contents"]["value"].count("\n\nHelp: "), 1)
 check("hover away", by[3]["result"], None)
 check("hover elsewhere", by[5]["result"], None)
 check("hover without a position", by[6]["error"]["code"], -32602)
 check("unknown method", by[7]["error"]["code"], -32601)
-check("no action of this kind", by[8]["result"], None)
+check("no action of this kind", by[8]["result"], [])
 found = by[4]["result"][0]
 check("action", (found["title"], found["kind"]), ("Insert `single` where it belongs", "quickfix"))
 edits = found["edit"]["changes"][URI]
@@ -193,7 +197,7 @@ check("fixed", applied(BAD, edits), BAD.replace("int rounds", "int single rounds
 def fixed(text):
     m, _, _ = run(initialize() + opened(URI, text) + request(4, "textDocument/codeAction", action(only=["source.fixAll"])) + END)
     result = next(x for x in m if x.get("id") == 4)["result"]
-    if result is None:
+    if not result:
         return None
     check("kind", result[0]["kind"], "source.fixAll")
     new = applied(text, result[0]["edit"]["changes"][URI])
@@ -209,6 +213,59 @@ WRONG = "class Main {\n  public static single void main(String[] args) { int sin
 check("a wrong `single` is removed", fixed(WRONG), WRONG.replace("int single k", "int k"))
 NO_FIX = "class Main {\n  public static single void main(String[] args) { if (Ti.thisProc() == 0) Ti.barrier(); }\n}\n"
 check("no fix", fixed(NO_FIX), None)
+
+# ---- names: at each position of a text, what is known belongs to the name there, and the declaration is spelled alike
+NAMES = ("class Node {\n  int count; Node next; Node [1d] nodes;\n  Node find(int by) { Node n = this; n = n.next; return nodes[by].next; }\n"
+         "  static int twice(int n) { int m = n; { int k = 1; m = m + k; } return m; }\n}\nclass Main {\n"
+         "  public static single void main(String[] args) {\n    Node node = new Node();\n    for (int i = 0; i < 3; i++) node.count = i;\n"
+         "    foreach (p in [0:3]) { println(p[1]); }\n    int t = Node.twice(2);\n    println(node.find(t).next.nodes[2].count);\n  }\n}\n")
+
+
+def names(text):
+    """The offsets at which a definition is found, with what is declared there; the text has one byte for each character."""
+    lines = text.split("\n")
+    asked = [(line, column) for line in range(len(lines)) for column in range(len(lines[line]) + 1)]
+    parts = [request(i, "textDocument/" + method, {"textDocument": document, "position": {"line": line, "character": column}})
+             for i, (line, column) in enumerate(asked, 100) for method in ["definition", "hover"]]
+    m, status, _ = run(initialize() + opened(URI, text) + b"".join(parts) + END)
+    found = [x["result"] for x in m if x.get("id", 0) in range(100, 100 + len(asked)) and "result" in x]
+    known = {}
+    for (line, column), definition, hover in zip(asked, found[::2], found[1::2]):
+        if definition is None:
+            continue
+        part = lambda at: lines[at["start"]["line"]][at["start"]["character"]:at["end"]["character"]]
+        check("a hover where there is a definition", hover is not None, True)
+        if hover is not None and not hover["contents"]["value"].startswith("**"):
+            at = hover["range"]
+            check("spelled alike", part(definition["range"]), part(at))
+            check("at the name", at["start"]["line"] == line and at["start"]["character"] <= column <= at["end"]["character"], True)
+        known[line, column] = part(definition["range"]), definition["range"]["start"]["line"]
+    check("all are answered", (len(found), status), (2 * len(asked), 0))
+    return known
+
+
+found = names(NAMES)
+check("what is known", sorted({name for name, _ in found.values()}),
+      ["Main", "Node", "by", "count", "find", "i", "k", "m", "main", "n", "next", "node", "nodes", "p", "t", "twice"])
+for odd in [NAMES.replace(";", "", 3), NAMES.replace("}", ""), NAMES.replace("{", ""), NAMES.replace("(", ""), NAMES.replace(")", "]"), NAMES[::-1],
+            "class class C { C C() ; C C = C . C ( C ) [ C ] . C", ". . x ) . x ] . x } . x", "class A { A a; A f() { A a = a.a.f().a; a = f().f(); } }"]:
+    names(odd.replace("\n\n", "\n"))
+
+# each name of these programs is known, but for words of the grammar, built-in members and the parameter of `main`
+WORDS = {"Ti", "in", "from", "barrier", "thisProc", "numProcs", "exchange", "copy", "domain", "size", "min", "max", "contains", "restrict", "translate",
+         "slice", "delete", "out", "args"}
+TOKENS = re.compile(r'//[^\n]*|/\*.*?\*/|"(?:[^"\\]|\\.)*"|\d\w*|([A-Za-z_]\w*)', re.S)
+PROGRAMS = sorted((Path(__file__).resolve().parent.parent / "crates/ti_rows_of_texts/data/porting").glob("*.ti"))
+for path in PROGRAMS:
+    text = path.read_text()
+    if not text.isascii():
+        continue
+    found = [(m[1], text.count("\n", 0, m.start()), m.start() - text.rfind("\n", 0, m.start()) - 1) for m in TOKENS.finditer(text) if m[1]]
+    parts = [request(i, "textDocument/definition", {"textDocument": document, "position": {"line": line, "character": column}})
+             for i, (_, line, column) in enumerate(found, 100)]
+    m, status, _ = run(initialize() + opened(URI, text) + b"".join(parts) + END)
+    unknown = {found[x["id"] - 100][0] for x in m if x.get("id", 0) >= 100 and x["result"] is None}
+    check("names of " + path.name, unknown - WORDS - RESERVED, set())
 
 # ---- symbols
 DECLARED = "class Node {\n  int count;\n  Node next;\n  void add(int by) { count = count + by; }\n}\n" + BAD

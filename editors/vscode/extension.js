@@ -157,7 +157,11 @@ function activate(context) {
     return found && [found].flat().map(toLocation);
   };
 
-  current.request('initialize', { processId: process.pid, rootUri: null, capabilities: { general: { positionEncodings: ['utf-16'] } } });
+  const capabilities = {
+    general: { positionEncodings: ['utf-16'] },
+    textDocument: { publishDiagnostics: { relatedInformation: true } },
+  };
+  current.request('initialize', { processId: process.pid, rootUri: null, capabilities });
   current.notify('initialized', {});
   vscode.workspace.textDocuments.forEach(open);
   context.subscriptions.push(

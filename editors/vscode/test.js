@@ -2,7 +2,7 @@
 //
 //     node test.js PROGRAM
 //
-// It opens a program with an error, lists its symbols, types the missing keyword, and applies the fix; the status is 1 if something is
+// It opens a program with an error, looks where a name is declared, lists its symbols, types the missing keyword, and applies the fix; the status is 1 if something is
 // otherwise than it must be.
 'use strict';
 const Module = require('module');
@@ -72,9 +72,12 @@ async function main() {
   extension.activate({ subscriptions: [] });
   const [found] = await diagnostics(1);
   assert.deepStrictEqual([found.code, found.source, found.range.start.line, found.range.start.character], ['S2', 'titan', 3, 4]);
+  assert.deepStrictEqual(found.relatedInformation.map(({ location }) => location.range.start.line), [3, 2, 3]);
   const hover = await providers.hover.provideHover(document, new Position(3, 5));
   assert.ok(hover.contents.value.startsWith('**S2** '));
   assert.strictEqual(await providers.hover.provideHover(document, new Position(0, 0)), null);
+  const [declared] = await providers.definition.provideDefinition(document, new Position(3, 39));
+  assert.deepStrictEqual([declared.uri.text, declared.range.start.line], ['file:///a.ti', 2]);
   const symbols = await providers.symbols.provideDocumentSymbols(document);
   assert.deepStrictEqual(symbols.map(({ name, kind, location }) => [name, kind, location.range.start.line]), [['Main', 4, 0], ['main', 5, 1]]);
   const at = document.text.split('\n')[2].indexOf('rounds');

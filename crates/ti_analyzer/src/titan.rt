@@ -1,46 +1,83 @@
 // titan as an analyzer. The texts of a language server are strings; titan takes their bytes.
-ghost use Rattle.std.specs.Prelude.{All, IfOk};
+ghost use Rattle.std.specs.Prelude.{All, IfOk, IfSome};
 ghost use Rattle.ti_diagnostics.specs.Rejections.{Rejects};
+ghost use Rattle.ti_lsp.specs.Analysis.{IsAnalysis};
+ghost use Rattle.ti_lsp.specs.Names.{IsKnownAt};
 ghost use Rattle.ti_lsp.specs.Symbols.{IsSymbolOf};
 
 use std::alloc::{AllocError, Global};
 use ti_base::Memory;
-use ti_diagnostics::{annotation_edits, diagnostic_of, symbols_of};
+use ti_declarations::{known_name, symbols_of};
+use ti_diagnostics::{annotation_edits, diagnostic_of, spelling_suggestions};
+use ti_explain::explain;
 use ti_infer::Marking;
-use ti_lex::{LexErr, lex};
-use ti_lsp::{Analyzer, Diagnostic, Symbol, TextEdit};
-use ti_top::{marking_of_text, refusal_of_text};
-
-// The maximum size of a text, in bytes, for which edits are suggested and symbols are listed.
-const MAX_BYTES: usize = 1_048_576;
+use ti_lex::{LexErr, MOST_BYTES, lex};
+use ti_lsp::{Analyzer, Diagnostic, KnownName, Suggestion, Symbol, TextEdit};
+use ti_rules::Rule;
+use ti_top::marking_of_text;
 
 /// titan as an analyzer.
 #[derive(Clone, Copy, Debug)]
 pub struct Titan;
 
-// The edits that bring the annotations of a text to a marking, if there are any.
-fn edits_for(
-    alloc: Global,
-    text: &[u8],
-    marking: &Marking,
-) -> Result<Option<Vec<TextEdit>>, Memory> {
-    if text.len() > MAX_BYTES {
-        return Ok(None);
+// The error of a text with its reasons, as a diagnostic.
+fn analyzed(alloc: Global, text: &[u8]) -> Result<Option<Diagnostic>, Memory>
+    ensures { IfOk result (IsAnalysis (Rejects text.now)) }
+{
+    match explain(alloc, text)? {
+        Some(explanation) => Ok(Some(diagnostic_of(alloc, text, &explanation)?)),
+        None => Ok(None),
     }
-    let tokens = match lex(alloc, text) {
-        Ok(tokens) => tokens,
-        Err(LexErr::Refused(_)) => return Ok(None),
-        Err(LexErr::Memory) => return Err(Memory),
-    };
-    let edits = annotation_edits(alloc, text, &tokens, marking.marks())?;
-    Ok(if edits.is_empty() { None } else { Some(edits) })
+}
+
+// The edits that bring the annotations of a text to a marking.
+fn edits_for(alloc: Global, text: &[u8], marking: &Marking) -> Result<Vec<TextEdit>, Memory> {
+    if text.len() > MOST_BYTES {
+        return Ok(Vec::new(alloc));
+    }
+    match lex(alloc, text) {
+        Ok(tokens) => annotation_edits(alloc, text, &tokens, marking.marks()),
+        Err(LexErr::Refused(_)) => Ok(Vec::new(alloc)),
+        Err(LexErr::Memory) => Err(Memory),
+    }
 }
 
 // The edits that bring a text to its greatest marking, if it has one.
-fn suggested_edits(alloc: Global, text: &[u8]) -> Result<Option<Vec<TextEdit>>, Memory> {
+fn edits_to_marking(alloc: Global, text: &[u8]) -> Result<Vec<TextEdit>, Memory> {
     match marking_of_text(alloc, text)? {
         Some(marking) => edits_for(alloc, text, &marking),
-        None => Ok(None),
+        None => Ok(Vec::new(alloc)),
+    }
+}
+
+// The suggestion that brings the annotations of a text to its greatest marking, if they aren't so.
+fn annotation_suggestions(alloc: Global, text: &[u8]) -> Result<Vec<Suggestion>, Memory> {
+    let mut suggestions = Vec::new(alloc);
+    let edits = edits_to_marking(alloc, text)?;
+    if !edits.is_empty() {
+        suggestions.push(Suggestion {
+            title: String::from_str(alloc, "Insert `single` where it belongs")?,
+            is_automatic: true,
+            edits,
+        })?;
+    }
+    Ok(suggestions)
+}
+
+// Edits that may fix this error of a text: other spellings of a name that means nothing, or annotations.
+fn suggestions_for(
+    alloc: Global,
+    text: &[u8],
+    diagnostic: &Diagnostic,
+) -> Result<Vec<Suggestion>, Memory> {
+    if diagnostic.code != Rule::N1.code() {
+        return annotation_suggestions(alloc, text);
+    }
+    match explain(alloc, text)? {
+        Some(explanation) => {
+            spelling_suggestions(alloc, diagnostic.start, diagnostic.end, &explanation)
+        }
+        None => Ok(Vec::new(alloc)),
     }
 }
 
@@ -48,7 +85,7 @@ fn suggested_edits(alloc: Global, text: &[u8]) -> Result<Option<Vec<TextEdit>>, 
 fn declared_symbols(alloc: Global, text: &[u8]) -> Result<Vec<Symbol>, Memory>
     ensures { IfOk result (λ v. All (IsSymbolOf text.now) v.items) }
 {
-    if text.len() > MAX_BYTES {
+    if text.len() > MOST_BYTES {
         return Ok(Vec::new(alloc));
     }
     match lex(alloc, text) {
@@ -58,23 +95,32 @@ fn declared_symbols(alloc: Global, text: &[u8]) -> Result<Vec<Symbol>, Memory>
     }
 }
 
+// What is known of the name at an offset of a text.
+fn name_known(alloc: Global, text: &[u8], offset: usize) -> Result<Option<KnownName>, Memory>
+    ensures { IfOk result (λ o. IfSome o (IsKnownAt text.now offset)) }
+{
+    let known = known_name(alloc, text, offset)?;
+    Ok(known)
+}
+
 impl Analyzer for Titan {
     ghost rejects = { Rejects };
 
     fn analyze(&self, alloc: Global, text: &str) -> Result<Option<Diagnostic>, AllocError> {
-        match refusal_of_text(alloc, text.as_bytes()) {
-            Ok(Some(refusal)) => match diagnostic_of(alloc, text.as_bytes(), refusal) {
-                Ok(diagnostic) => Ok(Some(diagnostic)),
-                Err(Memory) => Err(AllocError),
-            },
-            Ok(None) => Ok(None),
+        match analyzed(alloc, text.as_bytes()) {
+            Ok(diagnostic) => Ok(diagnostic),
             Err(Memory) => Err(AllocError),
         }
     }
 
-    fn suggest(&self, alloc: Global, text: &str) -> Result<Option<Vec<TextEdit>>, AllocError> {
-        match suggested_edits(alloc, text.as_bytes()) {
-            Ok(edits) => Ok(edits),
+    fn suggest(
+        &self,
+        alloc: Global,
+        text: &str,
+        diagnostic: &Diagnostic,
+    ) -> Result<Vec<Suggestion>, AllocError> {
+        match suggestions_for(alloc, text.as_bytes(), diagnostic) {
+            Ok(suggestions) => Ok(suggestions),
             Err(Memory) => Err(AllocError),
         }
     }
@@ -82,6 +128,18 @@ impl Analyzer for Titan {
     fn symbols(&self, alloc: Global, text: &str) -> Result<Vec<Symbol>, AllocError> {
         match declared_symbols(alloc, text.as_bytes()) {
             Ok(symbols) => Ok(symbols),
+            Err(Memory) => Err(AllocError),
+        }
+    }
+
+    fn name_at(
+        &self,
+        alloc: Global,
+        text: &str,
+        offset: usize,
+    ) -> Result<Option<KnownName>, AllocError> {
+        match name_known(alloc, text.as_bytes(), offset) {
+            Ok(known) => Ok(known),
             Err(Memory) => Err(AllocError),
         }
     }

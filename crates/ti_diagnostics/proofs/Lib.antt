@@ -1,4 +1,3 @@
 mod Places
 mod Positions
-mod SymbolLists
-mod TokenEnds
+mod RelatedPlaces

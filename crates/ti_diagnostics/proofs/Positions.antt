@@ -3,7 +3,6 @@ use Rattle.std.proofs.Common.{◌≡◌, ◌≤◌, ◌<◌, ◌+◌, ◌==◌, 
 use Rattle.std.proofs.Common.{[], ◌∷◌, length, drop, arith, refl, sym, ap, ap₂, ◌∙◌}
 use Rattle.std.proofs.Common.{subst, length-append, length-drop}
 use Rattle.std.proofs.lemmas.Bool.{eq-eqb, eqb-true}
-use borrow.Author.Count.{below_more}
 use Rattle.ti_base.specs.declared.place.Place.{Place}
 use Rattle.ti_base.specs.Places.{place_of, end_place}
 use Rattle.ti_syntax.specs.declared.token.Token.{Token}
@@ -19,10 +18,6 @@ use Rattle.ti_diagnostics.specs.Rejections.{IsPosition}
 use Rattle.ti_diagnostics.proofs.Places.Trees.{TokensPlaced}
 use Rattle.ti_diagnostics.proofs.Places.Spelled.{split, join, text_placed}
 use Rattle.ti_diagnostics.proofs.Places.Errors.{error_placed}
-
--- none of the first n bytes is at the position
-pub record NoneBefore (text : List ℕ) (n : ℕ) (place : Place) : Type 0 where
-  pub none : (k : ℕ) → k < n → place_of text k ≡ place → ⊥
 
 both_of : (a b : Bool) → (a && b) ≡ true → (a ≡ true) × (b ≡ true)
 both_of true b h = (refl, h)
@@ -44,18 +39,6 @@ same_decides p q b is = (λ t. same (sym is ∙ t), λ f e. other (sym is ∙ f)
         let k = eq-eqb p.col q.col (ap (λ (z : Place). z.col) e) in
         let t : ((p.line == q.line) && (p.col == q.col)) ≡ true = ap₂ (λ a b. a && b) l k in
         let apart : true ≡ false = sym t ∙ f in absurd (cc)
-
-pub none_before : (text : List ℕ) (place : Place) → NoneBefore text 0 place
-none_before text place = record { none = λ k below is. absurd (omega arith) }
-
-pub one_more : (text : List ℕ) (n : ℕ) (place : Place) → NoneBefore text n place
-    → (place_of text n ≡ place → ⊥) → NoneBefore text (n + 1) place
-one_more text n place before here =
-    record { none = below_more (λ k. place_of text k ≡ place → ⊥) n before.none here }
-
-pub no_position : (text : List ℕ) (n : ℕ) (place : Place) → NoneBefore text (n + 1) place
-    → length text ≤ n → IsPosition text place → ⊥
-no_position text n place before whole at = before.none at.0 (omega (arith, at.1)) at.2
 
 -- ---- the positions of errors
 

@@ -5,6 +5,7 @@ ghost use Rattle.std.specs.Prelude.{◌+◌, ◌<◌, ◌≤◌, ◌^◌, IfSome
 use std::alloc::Global;
 use ti_base::{Memory, Place};
 use ti_blame::{Mark, MarkKind};
+use ti_declarations::token_offsets;
 use ti_lsp::TextEdit;
 use ti_syntax::{Token, TokenKind};
 
@@ -21,14 +22,14 @@ fn is_single(tokens: &[Token], index: usize) -> bool {
     }
 }
 
-pub fn is_name(tokens: &[Token], index: usize) -> bool {
+fn is_name(tokens: &[Token], index: usize) -> bool {
     match tokens.get(index) {
         Some(token) => matches!(&token.kind, TokenKind::Name(_)),
         None => false,
     }
 }
 
-pub fn is_left_paren(tokens: &[Token], index: usize) -> bool {
+fn is_left_paren(tokens: &[Token], index: usize) -> bool {
     match tokens.get(index) {
         Some(token) => matches!(&token.kind, TokenKind::LeftParen),
         None => false,
@@ -188,50 +189,33 @@ fn keyword_end(text: &[u8], start: usize) -> usize {
 
 // The edit at a token, which begins at this offset.
 fn edit_at(
+    alloc: Global,
     text: &[u8],
     tokens: &[Token],
     marks: &[Mark],
     index: usize,
     start: usize,
-) -> Option<TextEdit> {
+) -> Result<Option<TextEdit>, Memory> {
     if is_single(tokens, index) {
         if keeps_single(tokens, marks, index) {
-            return None;
+            return Ok(None);
         }
         let end = keyword_end(text, start);
-        return Some(TextEdit {
+        return Ok(Some(TextEdit {
             start,
             end,
-            new_text: "",
-        });
+            new_text: String::new(alloc),
+        }));
     }
     if !lacks_single(tokens, marks, index) {
-        return None;
+        return Ok(None);
     }
-    Some(TextEdit {
+    let new_text = String::from_str(alloc, "single ")?;
+    Ok(Some(TextEdit {
         start,
         end: start,
-        new_text: "single ",
-    })
-}
-
-/// The offsets at which the tokens of a text begin, except for the last one.
-///
-/// Requires that no line or column of the text exceeds 32 bits.
-pub fn token_offsets(alloc: Global, text: &[u8], tokens: &[Token]) -> Result<Vec<usize>, Memory>
-    requires { length text.now + 2 < 2 ^ 32 }
-{
-    let mut offsets = Vec::new(alloc);
-    let mut at = Place::first();
-    for (index, byte) in text.iter().enumerate() {
-        if let Some(token) = tokens.get(offsets.len()) {
-            if token.place == at {
-                offsets.push(index)?;
-            }
-        }
-        at = at.after(*byte);
-    }
-    Ok(offsets)
+        new_text,
+    }))
 }
 
 /// The edits that bring the annotations of a source to a marking, in the order of the source. The tokens are those of the source, and the
@@ -249,7 +233,7 @@ pub fn annotation_edits(
     let offsets = token_offsets(alloc, text, tokens)?;
     let mut edits = Vec::new(alloc);
     for (index, start) in offsets.iter().enumerate() {
-        if let Some(edit) = edit_at(text, tokens, marks, index, *start) {
+        if let Some(edit) = edit_at(alloc, text, tokens, marks, index, *start)? {
             edits.push(edit)?;
         }
     }

@@ -1,18 +1,12 @@
-//! titan's errors as diagnostics of an editor: the range in bytes, and how to fix such an error; and the edits that put the `single`
-//! annotations of a program where they belong,
-//! and the declarations of a source.
+//! titan's errors as diagnostics of an editor: the range in bytes, what is wrong and how to fix it, and the places that have to do with it; and
+//! the edits that may fix an error: those that put the `single` annotations of a program where they belong, and other spellings of a name.
 #![tactic(auto)]
 
 mod annotations;
-mod help;
-mod offset;
 mod rejection;
-mod symbols;
-mod token_end;
+mod related;
+mod spelling;
 
 pub use annotations::annotation_edits;
-pub use help::help_of;
-pub use offset::offset_of;
 pub use rejection::diagnostic_of;
-pub use symbols::symbols_of;
-pub use token_end::end_of;
+pub use spelling::spelling_suggestions;

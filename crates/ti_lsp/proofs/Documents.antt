@@ -8,9 +8,9 @@ use Rattle.std.specs.String.{string_cmp}
 use Rattle.std.specs.declared.string.String.{String}
 use Rattle.std.proofs.lemmas.Map.Text.{btree_map_updates_text}
 use Rattle.serde_json.specs.Data.{Data, array, no_items}
+use Rattle.ti_lsp.specs.declared.client.Client.{Client}
 use Rattle.ti_lsp.specs.declared.diagnostic.Diagnostic.{Diagnostic}
 use Rattle.ti_lsp.specs.declared.document.Document.{Document}
-use Rattle.ti_lsp.specs.declared.position.PositionEncoding.{PositionEncoding}
 use Rattle.ti_lsp.specs.Analysis.{IsAnalysis}
 use Rattle.ti_lsp.specs.Diagnostics.{diagnostics_of, publication_of}
 use Rattle.ti_lsp.specs.Handling.{Documents, Clears, Publishes}
@@ -26,11 +26,11 @@ pub clears : (uri : List ℕ) (before after : Documents) (sent : Data) → sent 
     → ((q : List ℕ) → bytes_eq uri q ≡ false → after q ≡ before q) → Clears uri before after (Some sent)
 clears uri before after sent published gone others = record { published = ap Some published; gone = gone; others = others }
 
-pub publishes : (rejects : List ℕ → Diagnostic → Type 0) (encoding : PositionEncoding) (uri : List ℕ) (version : Option ℤ) (text : List ℕ) (document : Document)
+pub publishes : (rejects : List ℕ → Diagnostic → Type 0) (client : Client) (uri : List ℕ) (version : Option ℤ) (text : List ℕ) (document : Document)
     (before after : Documents) (sent : Data) → string_bytes document.text ≡ text → document.version ≡ version → IsAnalysis (rejects text) document.diagnostic
-    → sent ≡ publication_of uri version (diagnostics_of encoding text document.diagnostic) → after uri ≡ Some document
-    → ((q : List ℕ) → bytes_eq uri q ≡ false → after q ≡ before q) → Publishes rejects encoding uri version text before after (Some sent)
-publishes rejects encoding uri version text document before after sent is same analyzed published is_open others = record {
+    → sent ≡ publication_of uri version (diagnostics_of client uri text document.diagnostic) → after uri ≡ Some document
+    → ((q : List ℕ) → bytes_eq uri q ≡ false → after q ≡ before q) → Publishes rejects client uri version text before after (Some sent)
+publishes rejects client uri version text document before after sent is same analyzed published is_open others = record {
   document = document;
   analyzed = analyzed;
   text_is = is;

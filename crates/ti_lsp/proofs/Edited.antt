@@ -1,5 +1,5 @@
 -- The edits of a text, one after the other.
-use Rattle.std.proofs.Common.{◌≡◌, ◌≤◌, ℕ, true, false, List, [], ◌∷◌, ◌++◌, length, drop, slice_range, Option, None, Some, option_map, refl, sym, ap, ◌∙◌, append_assoc, subst, arith}
+use Rattle.std.proofs.Common.{◌≡◌, ◌≤◌, ℕ, true, false, List, [], ◌∷◌, ◌++◌, length, drop, slice_range, Option, None, Some, option_map, refl, sym, ap, ◌∙◌, append_assoc, string_bytes, subst, arith}
 use Rattle.std.proofs.lemmas.Bool.Decides.{nat_tests}
 use Rattle.ti_lsp.specs.declared.edit.TextEdit.{TextEdit}
 use Rattle.ti_lsp.specs.Edits.{edited, is_next}
@@ -24,25 +24,25 @@ pub next_within : (from : ℕ) (e : TextEdit) (len : ℕ) → is_next from e len
 next_within from e len fits = grind (arith, nat_tests)
 
 more : (text : List ℕ) (edits left : List TextEdit) (e : TextEdit) (new : List ℕ) (from : ℕ) → Edits text edits (e ∷ left) new from
-    → is_next from e (length text) ≡ true → Edits text edits left ((new ++ slice_range text from e.start) ++ e.new_text.now) e.end
+    → is_next from e (length text) ≡ true → Edits text edits left ((new ++ slice_range text from e.start) ++ string_bytes e.new_text) e.end
 more text edits left e new from before fits = record { whole = shape ∙ before.whole }
   where
     tail : Option (List ℕ)
     tail = edited e.end left text
 
     piece : List ℕ
-    piece = slice_range text from e.start ++ e.new_text.now
+    piece = slice_range text from e.start ++ string_bytes e.new_text
 
     here : edited from (e ∷ left) text ≡ option_map (λ (rest : List ℕ). piece ++ rest) tail
     here = rw fits refl
 
-    shape : option_map (λ (rest : List ℕ). ((new ++ slice_range text from e.start) ++ e.new_text.now) ++ rest) tail
+    shape : option_map (λ (rest : List ℕ). ((new ++ slice_range text from e.start) ++ string_bytes e.new_text) ++ rest) tail
         ≡ option_map (λ (rest : List ℕ). new ++ rest) (edited from (e ∷ left) text)
-    shape = ap (λ (l : List ℕ). option_map (λ (rest : List ℕ). l ++ rest) tail) (append_assoc new (slice_range text from e.start) e.new_text.now)
+    shape = ap (λ (l : List ℕ). option_map (λ (rest : List ℕ). l ++ rest) tail) (append_assoc new (slice_range text from e.start) (string_bytes e.new_text))
         ∙ sym (joined new piece tail) ∙ sym (ap (option_map (λ (rest : List ℕ). new ++ rest)) here)
 
 pub one_more : (text : List ℕ) (edits these left : List TextEdit) (e : TextEdit) (new longer : List ℕ) (from : ℕ) → Edits text edits these new from
-    → these ≡ e ∷ left → is_next from e (length text) ≡ true → longer ≡ (new ++ slice_range text from e.start) ++ e.new_text.now
+    → these ≡ e ∷ left → is_next from e (length text) ≡ true → longer ≡ (new ++ slice_range text from e.start) ++ string_bytes e.new_text
     → Edits text edits left longer e.end
 one_more text edits these left e new longer from before first fits is =
     let start = subst (λ (l : List TextEdit). Edits text edits l new from) first before in

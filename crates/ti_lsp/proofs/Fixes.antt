@@ -1,97 +1,127 @@
--- Fixes that are offered, and changes that are made.
-use Rattle.std.proofs.Common.{◌≡◌, ℕ, ℤ, List, Option, None, Some, option_map, string_bytes, refl, sym, ◌∙◌, subst, inl, inr, IsUtf8, All}
-use Rattle.serde_json.specs.Data.{Data, null}
+-- Fixes that are offered, what requests return, and changes that are made.
+use Rattle.std.proofs.Common.{◌≡◌, ◌<◌, ◌+◌, ◌++◌, ◌∷◌, [], ℕ, ℤ, Bool, true, false, List, Option, None, Some, string_bytes, refl, sym, ap, ◌∙◌, subst, inl, inr, IsUtf8, All, length, map, take, get_or}
+use Rattle.std.proofs.lemmas.List.{take_more, map-append}
+use Rattle.serde_json.specs.Data.{Data, null, array}
+use Rattle.serde_json.specs.View.{items_of, view}
+use Rattle.serde_json.specs.declared.value.Value.{Value}
+use Rattle.ti_lsp.specs.declared.client.Client.{Client}
 use Rattle.ti_lsp.specs.declared.diagnostic.Diagnostic.{Diagnostic}
 use Rattle.ti_lsp.specs.declared.document.Document.{Document}
-use Rattle.ti_lsp.specs.declared.edit.TextEdit.{TextEdit}
-use Rattle.ti_lsp.specs.declared.position.PositionEncoding.{PositionEncoding}
-use Rattle.ti_lsp.specs.Analysis.{HasNoDiagnostic, IsFix}
+use Rattle.ti_lsp.specs.declared.message.ActionFilter.{ActionFilter}
 use Rattle.ti_lsp.specs.declared.message.ActionKind.{ActionKind}
-use Rattle.ti_lsp.specs.Diagnostics.{actions_of}
-use Rattle.ti_lsp.specs.Responses.{success_of}
-use Rattle.ti_lsp.specs.Edits.{edited}
-use Rattle.ti_lsp.specs.Handling.{State, Documents, Changes, Publishes, Lists, Offers, CanFix, ReturnsActions, ReturnsSymbols, changed_text}
-use Rattle.ti_lsp.specs.Messages.{ChangeView}
-use Rattle.ti_lsp.specs.Symbols.{IsSymbolOf, symbols_of}
+use Rattle.ti_lsp.specs.declared.position.PositionEncoding.{PositionEncoding}
+use Rattle.ti_lsp.specs.declared.suggestion.Suggestion.{Suggestion}
 use Rattle.ti_lsp.specs.declared.symbol.Symbol.{Symbol}
+use Rattle.ti_lsp.specs.Actions.{action_data, kind_for}
+use Rattle.ti_lsp.specs.Analysis.{HasNoDiagnostic, IsAnalysis, IsFix, IsWholeFix, is_enough}
+use Rattle.ti_lsp.specs.Edits.{edited}
+use Rattle.ti_lsp.specs.Handling.{State, Documents, Changes, Publishes, Lists, Offers, OffersEach, OffersFor, OffersOne, Returns, changed_text}
+use Rattle.ti_lsp.specs.Handling.OffersEach.{no_suggestion, offered, not_offered}
+use Rattle.ti_lsp.specs.Messages.{ChangeView}
+use Rattle.ti_lsp.specs.Responses.{success_of}
+use Rattle.ti_lsp.specs.Symbols.{IsSymbolOf, symbols_of}
 
-pub fixes : (rejects : List ℕ → Diagnostic → Type 0) (document : Document) (edits : List TextEdit) (fixed : List ℕ)
-    → option_map (λ v. v.items) document.suggestion ≡ Some edits → edited 0 edits (string_bytes document.text) ≡ Some fixed → IsUtf8 fixed
-    → HasNoDiagnostic (rejects fixed) → IsFix rejects document edits
-fixes rejects document edits fixed stored applied text accepted =
-    record { fixed = fixed; stored = stored; applied = applied; is_text = text; accepted = accepted }
+-- ---- fixes
 
-pub not_stored : (rejects : List ℕ → Diagnostic → Type 0) (document : Document) (edits : List TextEdit)
-    → option_map (λ v. v.items) document.suggestion ≡ None → IsFix rejects document edits → ⊥
-not_stored rejects document edits none is = let h : None ≡ Some edits = sym none ∙ is.stored in absurd (cc)
+pub no_edit : (text fixed : List ℕ) (s : Suggestion) → edited 0 s.edits.items text ≡ None → edited 0 s.edits.items text ≡ Some fixed → IsUtf8 fixed → ⊥
+no_edit text fixed s none some is = let h : None ≡ Some fixed = sym none ∙ some in absurd (cc)
 
--- the stored edits are these
-same_edits : (rejects : List ℕ → Diagnostic → Type 0) (document : Document) (edits these : List TextEdit) (is : IsFix rejects document edits)
-    → option_map (λ v. v.items) document.suggestion ≡ Some these → edited 0 these (string_bytes document.text) ≡ Some is.fixed
-same_edits rejects document edits these is stored =
-    let h : Some edits ≡ Some these = sym is.stored ∙ stored in
-    let e : edits ≡ these = cc in
-    subst (λ (l : List TextEdit). edited 0 l (string_bytes document.text) ≡ Some is.fixed) e is.applied
+pub not_utf8 : (text fixed these : List ℕ) (s : Suggestion) → edited 0 s.edits.items text ≡ Some these → (IsUtf8 these → ⊥)
+    → edited 0 s.edits.items text ≡ Some fixed → IsUtf8 fixed → ⊥
+not_utf8 text fixed these s is other some utf8 =
+    let h : Some fixed ≡ Some these = sym some ∙ is in
+    let e : fixed ≡ these = cc in other (subst IsUtf8 e utf8)
 
-pub not_applied : (rejects : List ℕ → Diagnostic → Type 0) (document : Document) (edits these : List TextEdit)
-    → option_map (λ v. v.items) document.suggestion ≡ Some these → edited 0 these (string_bytes document.text) ≡ None → IsFix rejects document edits → ⊥
-not_applied rejects document edits these stored none is =
-    let h : None ≡ Some is.fixed = sym none ∙ same_edits rejects document edits these is stored in absurd (cc)
+pub fixes : (rejects : List ℕ → Diagnostic → Type 0) (text fixed : List ℕ) (d : Diagnostic) (s : Suggestion) (later : Option Diagnostic)
+    → edited 0 s.edits.items text ≡ Some fixed → IsUtf8 fixed → IsAnalysis (rejects fixed) later → is_enough s.is_automatic d later ≡ true
+    → IsFix rejects text d s
+fixes rejects text fixed d s later applied is analyzed enough =
+    record { fixed = fixed; later = later; applied = applied; is_text = is; analyzed = analyzed; enough = enough }
 
-same_fixed : (rejects : List ℕ → Diagnostic → Type 0) (document : Document) (edits these : List TextEdit) (fixed : List ℕ) (is : IsFix rejects document edits)
-    → option_map (λ v. v.items) document.suggestion ≡ Some these → edited 0 these (string_bytes document.text) ≡ Some fixed → is.fixed ≡ fixed
-same_fixed rejects document edits these fixed is stored applied =
-    let h : Some is.fixed ≡ Some fixed = sym (same_edits rejects document edits these is stored) ∙ applied in cc
+pub not_applied : (rejects : List ℕ → Diagnostic → Type 0) (text : List ℕ) (s : Suggestion)
+    → ((fixed : List ℕ) → edited 0 s.edits.items text ≡ Some fixed → IsUtf8 fixed → ⊥) → IsWholeFix rejects text s → ⊥
+not_applied rejects text s none is = none is.fixed is.applied is.is_text
 
-pub not_text : (rejects : List ℕ → Diagnostic → Type 0) (document : Document) (edits these : List TextEdit) (fixed : List ℕ)
-    → option_map (λ v. v.items) document.suggestion ≡ Some these → edited 0 these (string_bytes document.text) ≡ Some fixed → (IsUtf8 fixed → ⊥)
-    → IsFix rejects document edits → ⊥
-not_text rejects document edits these fixed stored applied other is =
-    other (subst IsUtf8 (same_fixed rejects document edits these fixed is stored applied) is.is_text)
-
-pub not_accepted : (rejects : List ℕ → Diagnostic → Type 0) (document : Document) (edits these : List TextEdit) (fixed : List ℕ)
-    → option_map (λ v. v.items) document.suggestion ≡ Some these → edited 0 these (string_bytes document.text) ≡ Some fixed → (HasNoDiagnostic (rejects fixed) → ⊥)
-    → IsFix rejects document edits → ⊥
-not_accepted rejects document edits these fixed stored applied other is =
-    other (subst (λ (t : List ℕ). HasNoDiagnostic (rejects t)) (same_fixed rejects document edits these fixed is stored applied) is.accepted)
-
-pub not_fixed : (rejects : List ℕ → Diagnostic → Type 0) (encoding : PositionEncoding) (uri : List ℕ) (kind : Option ActionKind) (document : Option Document)
-    (opened : Document) (outcome : Data) → document ≡ Some opened → ((edits : List TextEdit) → IsFix rejects opened edits → ⊥) → outcome ≡ null
-    → Offers rejects encoding uri kind document outcome
-not_fixed rejects encoding uri kind document opened outcome is none same = inl (same, impossible)
+pub not_enough : (rejects : List ℕ → Diagnostic → Type 0) (text these : List ℕ) (d : Diagnostic) (s : Suggestion) (later : Option Diagnostic)
+    → edited 0 s.edits.items text ≡ Some these → IsAnalysis (rejects these) later → is_enough s.is_automatic d later ≡ false → IsWholeFix rejects text s → ⊥
+not_enough rejects text these d s later applied analyzed not is = found later analyzed not
   where
-    impossible : CanFix rejects kind document → ⊥
-    impossible can =
-        let h : Some can.opened ≡ Some opened = sym can.is_open ∙ is in
-        let e : can.opened ≡ opened = cc in
-        none can.edits (subst (λ (d : Document). IsFix rejects d can.edits) e can.is_fix)
+    same : is.fixed ≡ these
+    same = let h : Some is.fixed ≡ Some these = sym is.applied ∙ applied in cc
 
-pub offers_fix : (rejects : List ℕ → Diagnostic → Type 0) (encoding : PositionEncoding) (uri : List ℕ) (kind : Option ActionKind) (document : Option Document)
-    (wanted : ActionKind) (opened : Document) (diagnostic : Diagnostic) (edits : List TextEdit) (outcome : Data) → kind ≡ Some wanted → document ≡ Some opened
-    → opened.diagnostic ≡ Some diagnostic → IsFix rejects opened edits
-    → outcome ≡ actions_of encoding uri wanted (string_bytes opened.text) diagnostic edits → Offers rejects encoding uri kind document outcome
-offers_fix rejects encoding uri kind document wanted opened diagnostic edits outcome kind_is is_open found is_fix same = inr (record {
-  can = record {
-    wanted = wanted;
-    opened = opened;
-    diagnostic = diagnostic;
-    edits = edits;
-    kind_is = kind_is;
-    is_open = is_open;
-    found = found;
-    is_fix = is_fix;
-  };
-  outcome_is = same;
-})
+    accepted : HasNoDiagnostic (rejects these)
+    accepted = subst (λ (t : List ℕ). HasNoDiagnostic (rejects t)) same is.accepted
 
-pub returns_actions : (rejects : List ℕ → Diagnostic → Type 0) (id : Data) (uri : List ℕ) (kind : Option ActionKind) (document : Option Document)
-    (old new : State) (outcome sent : Data) → new ≡ old → sent ≡ success_of id outcome → Offers rejects old.encoding uri kind document outcome
-    → ReturnsActions rejects id uri kind document old new sent
-returns_actions rejects id uri kind document old new outcome sent same is offers = record { outcome = outcome; same = same; sent_is = is; offers = offers }
+    always : (b : Bool) → is_enough b d None ≡ true
+    always true = refl
+    always false = refl
 
-pub returns_symbols : (id : Data) (uri : List ℕ) (document : Option Document) (old new : State) (outcome sent : Data) → new ≡ old → sent ≡ success_of id outcome
-    → Lists old.encoding uri document outcome → ReturnsSymbols id uri document old new sent
-returns_symbols id uri document old new outcome sent same is lists = record { outcome = outcome; same = same; sent_is = is; lists = lists }
+    found : (o : Option Diagnostic) → IsAnalysis (rejects these) o → is_enough s.is_automatic d o ≡ false → ⊥
+    found None analyzed not = let h : true ≡ false = sym (always s.is_automatic) ∙ not in absurd (cc)
+    found (Some e) analyzed not = accepted e analyzed
+
+-- ---- code actions
+
+pub offers_one : (rejects : List ℕ → Diagnostic → Type 0) (client : Client) (uri : List ℕ) (filter : ActionFilter) (text : List ℕ) (d : Diagnostic)
+    (s : Suggestion) (kind : ActionKind) (action : Data) → kind_for client.encoding text d s filter ≡ Some kind → IsFix rejects text d s
+    → action ≡ action_data client uri text d s kind → OffersOne rejects client uri filter text d s (Some action)
+offers_one rejects client uri filter text d s kind action wanted is same = record { kind = kind; wanted = wanted; is_fix = is; action_is = same }
+
+pub not_wanted : (rejects : List ℕ → Diagnostic → Type 0) (client : Client) (uri : List ℕ) (filter : ActionFilter) (text : List ℕ) (d : Diagnostic)
+    (s : Suggestion) → kind_for client.encoding text d s filter ≡ None → OffersOne rejects client uri filter text d s None
+not_wanted rejects client uri filter text d s none = inl none
+
+pub no_fix : (rejects : List ℕ → Diagnostic → Type 0) (client : Client) (uri : List ℕ) (filter : ActionFilter) (text : List ℕ) (d : Diagnostic)
+    (s : Suggestion) → (IsWholeFix rejects text s → ⊥) → OffersOne rejects client uri filter text d s None
+no_fix rejects client uri filter text d s none = inr none
+
+pub none_offered : (rejects : List ℕ → Diagnostic → Type 0) (client : Client) (uri : List ℕ) (filter : ActionFilter) (text : List ℕ) (d : Diagnostic)
+    → OffersEach rejects client uri filter text d [] []
+none_offered rejects client uri filter text d = no_suggestion
+
+pub one_offered : (rejects : List ℕ → Diagnostic → Type 0) (client : Client) (uri : List ℕ) (filter : ActionFilter) (text : List ℕ) (d : Diagnostic)
+    (ss : List Suggestion) (i : ℕ) (s : Suggestion) (actions : List Value) (action : Value) (longer : List Value) → i < length ss → s ≡ get_or ss i s
+    → OffersEach rejects client uri filter text d (take i ss) (map view actions) → OffersOne rejects client uri filter text d s (Some (view action))
+    → longer ≡ actions ++ action ∷ [] → OffersEach rejects client uri filter text d (take (i + 1) ss) (map view longer)
+one_offered rejects client uri filter text d ss i s actions action longer below is so_far one long =
+    subst (λ (l : List Suggestion). OffersEach rejects client uri filter text d l (map view longer)) first
+    (subst (λ (l : List Data). OffersEach rejects client uri filter text d (take i ss ++ s ∷ []) l) (sym (ap (map view) long ∙ map-append view actions (action ∷ [])))
+    (offered so_far one))
+  where
+    first : take i ss ++ s ∷ [] ≡ take (i + 1) ss
+    first = ap (λ (x : Suggestion). take i ss ++ x ∷ []) is ∙ sym (take_more ss i s below)
+
+pub one_not_offered : (rejects : List ℕ → Diagnostic → Type 0) (client : Client) (uri : List ℕ) (filter : ActionFilter) (text : List ℕ) (d : Diagnostic)
+    (ss : List Suggestion) (i : ℕ) (s : Suggestion) (actions : List Data) → i < length ss → s ≡ get_or ss i s
+    → OffersEach rejects client uri filter text d (take i ss) actions → OffersOne rejects client uri filter text d s None
+    → OffersEach rejects client uri filter text d (take (i + 1) ss) actions
+one_not_offered rejects client uri filter text d ss i s actions below is so_far one =
+    subst (λ (l : List Suggestion). OffersEach rejects client uri filter text d l actions) first (not_offered so_far one)
+  where
+    first : take i ss ++ s ∷ [] ≡ take (i + 1) ss
+    first = ap (λ (x : Suggestion). take i ss ++ x ∷ []) is ∙ sym (take_more ss i s below)
+
+pub offers_all : (rejects : List ℕ → Diagnostic → Type 0) (client : Client) (uri : List ℕ) (filter : ActionFilter) (document : Option Document)
+    (opened : Document) (d : Diagnostic) (actions : List Data) (outcome : Data) → document ≡ Some opened → opened.diagnostic ≡ Some d
+    → OffersEach rejects client uri filter (string_bytes opened.text) d opened.suggestions.items actions → outcome ≡ array (items_of actions)
+    → Offers rejects client uri filter document outcome
+offers_all rejects client uri filter document opened d actions outcome is found offers same =
+    subst (λ (o : Option Document). Offers rejects client uri filter o outcome) (sym is)
+    (subst (λ (o : Option Diagnostic). OffersFor rejects client uri filter opened o outcome) (sym found)
+    (record { actions = actions; offers = offers; outcome_is = same }))
+
+pub offers_nothing : (rejects : List ℕ → Diagnostic → Type 0) (client : Client) (uri : List ℕ) (filter : ActionFilter) (document : Option Document)
+    (opened : Document) (outcome : Data) → document ≡ Some opened → opened.diagnostic ≡ None → outcome ≡ null
+    → Offers rejects client uri filter document outcome
+offers_nothing rejects client uri filter document opened outcome is found same =
+    subst (λ (o : Option Document). Offers rejects client uri filter o outcome) (sym is)
+    (subst (λ (o : Option Diagnostic). OffersFor rejects client uri filter opened o outcome) (sym found) same)
+
+-- ---- requests
+
+pub returns_such : (id : Data) (old new : State) (outcome sent : Data) (fits : Data → Type 0) → new ≡ old → sent ≡ success_of id outcome → fits outcome
+    → Returns id old new sent fits
+returns_such id old new outcome sent fits same is such = record { outcome = outcome; same = same; sent_is = is; is_such = such }
 
 -- ---- symbols
 
@@ -113,12 +143,12 @@ no_text encoding version changes document text these is other some utf8 =
     let h : Some text ≡ Some these = sym some ∙ is in
     let e : text ≡ these = cc in other (subst IsUtf8 e utf8)
 
-pub changes : (rejects : List ℕ → Diagnostic → Type 0) (encoding : PositionEncoding) (uri : List ℕ) (version : Option ℤ) (list : List ChangeView)
-    (before after : Documents) (sent : Option Data) (text : List ℕ) → changed_text encoding version list (before uri) ≡ Some text
-    → Publishes rejects encoding uri version text before after sent → Changes rejects encoding uri version list before after sent
-changes rejects encoding uri version list before after sent text is publishes = inl (record { text = text; text_is = is; publishes = publishes })
+pub changes : (rejects : List ℕ → Diagnostic → Type 0) (client : Client) (uri : List ℕ) (version : Option ℤ) (list : List ChangeView)
+    (before after : Documents) (sent : Option Data) (text : List ℕ) → changed_text client.encoding version list (before uri) ≡ Some text
+    → Publishes rejects client uri version text before after sent → Changes rejects client uri version list before after sent
+changes rejects client uri version list before after sent text is publishes = inl (record { text = text; text_is = is; publishes = publishes })
 
-pub refuses_change : (rejects : List ℕ → Diagnostic → Type 0) (encoding : PositionEncoding) (uri : List ℕ) (version : Option ℤ) (list : List ChangeView)
-    (before after : Documents) → ((text : List ℕ) → changed_text encoding version list (before uri) ≡ Some text → IsUtf8 text → ⊥) → after ≡ before
-    → Changes rejects encoding uri version list before after None
-refuses_change rejects encoding uri version list before after none kept = inr (record { no_text = none; kept = kept; silent = refl })
+pub refuses_change : (rejects : List ℕ → Diagnostic → Type 0) (client : Client) (uri : List ℕ) (version : Option ℤ) (list : List ChangeView)
+    (before after : Documents) → ((text : List ℕ) → changed_text client.encoding version list (before uri) ≡ Some text → IsUtf8 text → ⊥) → after ≡ before
+    → Changes rejects client uri version list before after None
+refuses_change rejects client uri version list before after none kept = inr (record { no_text = none; kept = kept; silent = refl })

@@ -3,4 +3,5 @@ mod Edited
 mod Fixes
 mod Items
 mod Offsets
+mod Shown
 mod Units

@@ -1,16 +1,15 @@
--- Diagnostics, hovers and code actions as JSON. The members of each object are in the order of their names.
-use Rattle.std.specs.Prelude.{ℕ, ℤ, ◌++◌, min, max, List, true, Option, Some, None, length, take, codes, if◌then◌else◌, map}
-use Rattle.serde_json.specs.Data.{Data, null, number, unsigned, string, boolean, array, object, item, no_items, member, no_members}
+-- Positions, diagnostics and hovers as JSON. The members of each object are in the order of their names.
+use Rattle.std.specs.Prelude.{ℕ, ℤ, ◌++◌, min, max, List, [], ◌∷◌, Option, Some, None, length, take, codes, if◌then◌else◌, map, string_bytes}
+use Rattle.serde_json.specs.Data.{Data, Members, number, unsigned, string, array, object, item, no_items, member, no_members}
 use Rattle.serde_json.specs.Find.{of_integer}
 use Rattle.serde_json.specs.View.{items_of}
+use Rattle.ti_lsp.specs.declared.client.Client.{Client}
 use Rattle.ti_lsp.specs.declared.diagnostic.Diagnostic.{Diagnostic}
-use Rattle.ti_lsp.specs.declared.edit.TextEdit.{TextEdit}
-use Rattle.ti_lsp.specs.declared.message.ActionKind.{ActionKind}
-use Rattle.ti_lsp.specs.declared.message.ActionKind.TheVariants.{QuickFix, FixAll}
+use Rattle.ti_lsp.specs.declared.diagnostic.Related.{Related}
 use Rattle.ti_lsp.specs.declared.position.PositionEncoding.{PositionEncoding}
 use Rattle.ti_lsp.specs.declared.position.Position.{Position}
 use Rattle.ti_lsp.specs.declared.position.TextRange.{TextRange}
-use Rattle.ti_lsp.specs.Positions.{position_of, touches}
+use Rattle.ti_lsp.specs.Positions.{position_of}
 
 -- the range of the bytes from one offset up to another, cut at the text's end, and empty if the end is before the start
 abbrev pub bytes_range : PositionEncoding → List ℕ → ℕ → ℕ → TextRange
@@ -29,25 +28,49 @@ range_data range = object
     (member (codes "end") (position_data range.end)
     (member (codes "start") (position_data range.start) no_members))
 
+-- some bytes of a document as a location
+abbrev pub location_data : PositionEncoding → List ℕ → List ℕ → ℕ → ℕ → Data
+location_data encoding uri text start end = object
+    (member (codes "range") (range_data (bytes_range encoding text start end))
+    (member (codes "uri") (string uri) no_members))
+
 -- ---- diagnostics
 
 -- the range of a diagnostic in its text
 abbrev pub diagnostic_range : PositionEncoding → List ℕ → Diagnostic → TextRange
 diagnostic_range encoding text d = bytes_range encoding text d.start d.end
 
--- a diagnostic of a text: an error (severity 1) with the code and the message of the rule
-abbrev pub diagnostic_of : PositionEncoding → List ℕ → Diagnostic → Data
-diagnostic_of encoding text d = object
+-- a related place of a document, with what is said of it
+abbrev pub related_data : PositionEncoding → List ℕ → List ℕ → Related → Data
+related_data encoding uri text r = object
+    (member (codes "location") (location_data encoding uri text r.start r.end)
+    (member (codes "message") (string (string_bytes r.message)) no_members))
+
+abbrev pub related_list : PositionEncoding → List ℕ → List ℕ → List Related → Data
+related_list encoding uri text places = array (items_of (map (related_data encoding uri text) places))
+
+-- what follows the range of a diagnostic: it is an error (severity 1)
+abbrev pub severity_members : Members
+severity_members = member (codes "severity") (number (unsigned 1)) (member (codes "source") (string (codes "titan")) no_members)
+
+-- the related places, if the client accepts them, and the severity
+abbrev pub related_members : Client → List ℕ → List ℕ → Diagnostic → Members
+related_members client uri text d =
+    if client.accepts_related
+    then member (codes "relatedInformation") (related_list client.encoding uri text d.related.items) severity_members
+    else severity_members
+
+-- a diagnostic of a document: an error with the code and the message of the rule, and with its related places
+abbrev pub diagnostic_of : Client → List ℕ → List ℕ → Diagnostic → Data
+diagnostic_of client uri text d = object
     (member (codes "code") (string d.code.now)
     (member (codes "message") (string d.message.now)
-    (member (codes "range") (range_data (diagnostic_range encoding text d))
-    (member (codes "severity") (number (unsigned 1))
-    (member (codes "source") (string (codes "titan")) no_members)))))
+    (member (codes "range") (range_data (diagnostic_range client.encoding text d)) (related_members client uri text d))))
 
--- the diagnostics of a text: none or one
-abbrev pub diagnostics_of : PositionEncoding → List ℕ → Option Diagnostic → Data
-diagnostics_of encoding text None = array no_items
-diagnostics_of encoding text (Some d) = array (item (diagnostic_of encoding text d) no_items)
+-- the diagnostics of a document: none or one
+abbrev pub diagnostics_of : Client → List ℕ → List ℕ → Option Diagnostic → Data
+diagnostics_of client uri text None = array no_items
+diagnostics_of client uri text (Some d) = array (item (diagnostic_of client uri text d) no_items)
 
 -- the version of a document is sent if it is known
 abbrev pub publication_params : List ℕ → Option ℤ → Data → Data
@@ -68,41 +91,23 @@ publication_of uri version diagnostics = object
 
 -- ---- hover
 
--- what is said at an error: its rule and how to fix it
-abbrev pub hover_text : Diagnostic → List ℕ
-hover_text d = codes "**" ++ d.code.now ++ codes "** " ++ d.message.now ++ codes "\n\n" ++ d.help.now
-
-abbrev pub hover_data : PositionEncoding → List ℕ → Diagnostic → Data
-hover_data encoding text d = object
+-- a hover: what is said of a range, as Markdown
+abbrev pub hover_data : List ℕ → Data → Data
+hover_data said range = object
     (member (codes "contents") (object
     (member (codes "kind") (string (codes "markdown"))
-    (member (codes "value") (string (hover_text d)) no_members)))
-    (member (codes "range") (range_data (diagnostic_range encoding text d)) no_members))
+    (member (codes "value") (string said) no_members)))
+    (member (codes "range") range no_members))
 
--- the hover at a position of a text: that of its error, and null elsewhere
-abbrev pub hover_at : PositionEncoding → List ℕ → Option Diagnostic → Position → Data
-hover_at encoding text None at = null
-hover_at encoding text (Some d) at = if touches (diagnostic_range encoding text d) at then hover_data encoding text d else null
+-- a paragraph that begins with these words, if there is one
+abbrev pub paragraph : List ℕ → List ℕ → List ℕ
+paragraph words [] = []
+paragraph words (b ∷ bs) = (codes "\n\n" ++ words) ++ (b ∷ bs)
 
--- ---- code actions
+-- what is said at an error: its rule, what is wrong, and how to fix it
+abbrev pub hover_text : Diagnostic → List ℕ
+hover_text d = (codes "**" ++ d.code.now ++ codes "** " ++ d.message.now ++ paragraph [] (string_bytes d.label)) ++ paragraph (codes "Help: ") (string_bytes d.help)
 
-abbrev pub action_kind_name : ActionKind → List ℕ
-action_kind_name QuickFix = codes "quickfix"
-action_kind_name FixAll = codes "source.fixAll"
-
--- an edit: its range, and what stands there afterwards
-abbrev pub edit_data : PositionEncoding → List ℕ → TextEdit → Data
-edit_data encoding text e = object
-    (member (codes "newText") (string e.new_text.now)
-    (member (codes "range") (range_data (bytes_range encoding text e.start e.end)) no_members))
-
--- the code actions for a document with an error: the one that applies these edits to it
-abbrev pub actions_of : PositionEncoding → List ℕ → ActionKind → List ℕ → Diagnostic → List TextEdit → Data
-actions_of encoding uri kind text d edits = array (item (object
-    (member (codes "diagnostics") (array (item (diagnostic_of encoding text d) no_items))
-    (member (codes "edit") (object
-    (member (codes "changes") (object
-    (member uri (array (items_of (map (edit_data encoding text) edits))) no_members)) no_members))
-    (member (codes "isPreferred") (boolean true)
-    (member (codes "kind") (string (action_kind_name kind))
-    (member (codes "title") (string (codes "Insert `single` where it belongs")) no_members)))))) no_items)
+-- the hover at an error
+abbrev pub diagnostic_hover : PositionEncoding → List ℕ → Diagnostic → Data
+diagnostic_hover encoding text d = hover_data (hover_text d) (range_data (diagnostic_range encoding text d))

@@ -1,5 +1,5 @@
 -- Texts with edits and changes.
-use Rattle.std.specs.Prelude.{ℕ, ◌&&◌, nat_le, max, Bool, if◌then◌else◌, List, [], ◌∷◌, ◌++◌, length, take, drop, slice_range, Option, Some, None, option_map}
+use Rattle.std.specs.Prelude.{ℕ, ◌&&◌, nat_le, max, Bool, if◌then◌else◌, List, [], ◌∷◌, ◌++◌, length, take, drop, slice_range, Option, Some, None, option_map, string_bytes}
 use Rattle.ti_lsp.specs.declared.edit.TextEdit.{TextEdit}
 use Rattle.ti_lsp.specs.declared.position.PositionEncoding.{PositionEncoding}
 use Rattle.ti_lsp.specs.declared.position.TextRange.{TextRange}
@@ -17,7 +17,7 @@ abbrev pub edited : ℕ → List TextEdit → List ℕ → Option (List ℕ)
 edited from [] text = Some (drop from text)
 edited from (e ∷ es) text =
     if is_next from e (length text)
-    then option_map (λ rest. (slice_range text from e.start ++ e.new_text.now) ++ rest) (edited e.end es text)
+    then option_map (λ rest. (slice_range text from e.start ++ string_bytes e.new_text) ++ rest) (edited e.end es text)
     else None
 
 -- ---- changes of a client

@@ -1,8 +1,10 @@
+pub mod Actions
 pub mod Analysis
 pub mod Diagnostics
 pub mod Edits
 pub mod Handling
 pub mod Messages
+pub mod Names
 pub mod Positions
 pub mod Responses
 pub mod Sessions

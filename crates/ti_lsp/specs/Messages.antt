@@ -2,9 +2,9 @@
 use Rattle.std.specs.Prelude.{ℕ, ℤ, ◌||◌, Bool, false, List, [], ◌∷◌, Option, Some, None, is_some, is_none, codes, if◌then◌else◌, option_map, option_and_then, unwrap_or}
 use Rattle.std.specs.Str.{bytes_eq}
 use Rattle.serde_json.specs.Data.{Data, null, Items, item, no_items}
-use Rattle.serde_json.specs.Find.{get, pointer, as_str, as_number, as_u64, as_i64, as_array}
-use Rattle.ti_lsp.specs.declared.message.ActionKind.{ActionKind}
-use Rattle.ti_lsp.specs.declared.message.ActionKind.TheVariants.{QuickFix, FixAll}
+use Rattle.serde_json.specs.Find.{get, pointer, as_bool, as_str, as_number, as_u64, as_i64, as_array}
+use Rattle.ti_lsp.specs.declared.client.Client.{Client}
+use Rattle.ti_lsp.specs.declared.message.ActionFilter.{ActionFilter}
 use Rattle.ti_lsp.specs.declared.position.PositionEncoding.{PositionEncoding}
 use Rattle.ti_lsp.specs.declared.position.PositionEncoding.TheVariants.{Utf8, Utf16, Utf32}
 use Rattle.ti_lsp.specs.declared.position.Position.{Position}
@@ -17,12 +17,13 @@ pub record ChangeView : Type 0 where
 
 -- what a request asks for
 pub data RequestView : Type 0 where
-  initialize : PositionEncoding → RequestView
+  initialize : Client → RequestView
   shutdown : RequestView
   hover : List ℕ → Position → RequestView
+  definition : List ℕ → Position → RequestView
   document_symbol : List ℕ → RequestView
-  -- a code action for a document, of the kind that is wanted; none if that is one that there isn't
-  code_action : List ℕ → Option ActionKind → RequestView
+  -- the code actions for a document that are wanted
+  code_action : List ℕ → ActionFilter → RequestView
   invalid_params : RequestView
   unknown_method : RequestView
 
@@ -69,6 +70,9 @@ range_from (Some start) (Some end) = Some (record { start = start; end = end })
 abbrev pub range_in : Data → Option TextRange
 range_in d = range_from (position_at (codes "/start") d) (position_at (codes "/end") d)
 
+abbrev pub range_at : List ℕ → Data → Option TextRange
+range_at path d = option_and_then range_in (pointer path d)
+
 abbrev pub is_string : List ℕ → Data → Bool
 is_string wanted d = unwrap_or (option_map (λ t. bytes_eq t wanted) (as_str d)) false
 
@@ -87,6 +91,17 @@ encoding_of params =
     else if has_string (codes "/capabilities/general/positionEncodings") (codes "utf-32") params then Utf32
     else Utf16
 
+-- whether the value at a path is the boolean true
+abbrev pub is_true : List ℕ → Data → Bool
+is_true path d = unwrap_or (option_and_then as_bool (pointer path d)) false
+
+-- what the client supports
+abbrev pub client_of : Data → Client
+client_of params = record {
+  encoding = encoding_of params;
+  accepts_related = is_true (codes "/capabilities/textDocument/publishDiagnostics/relatedInformation") params;
+}
+
 abbrev pub uri_of : Data → Option (List ℕ)
 uri_of params = string_at (codes "/textDocument/uri") params
 
@@ -100,16 +115,29 @@ hover_from (Some uri) (Some at) = hover uri at
 hover_from (Some uri) None = invalid_params
 hover_from None at = invalid_params
 
--- the kind of code action that is wanted: `only` is absent, or names it or what it is part of
-abbrev pub wanted_kind : Data → Option ActionKind
-wanted_kind params =
-    if has_string (codes "/context/only") (codes "source.fixAll") params || has_string (codes "/context/only") (codes "source") params then Some FixAll
-    else if has_string (codes "/context/only") (codes "quickfix") params || is_none (pointer (codes "/context/only") params) then Some QuickFix
-    else None
+abbrev pub definition_from : Option (List ℕ) → Option Position → RequestView
+definition_from (Some uri) (Some at) = definition uri at
+definition_from (Some uri) None = invalid_params
+definition_from None at = invalid_params
 
-abbrev pub action_from : Option ActionKind → Option (List ℕ) → RequestView
-action_from kind None = invalid_params
-action_from kind (Some uri) = code_action uri kind
+-- whether quick fixes are wanted: `only` is absent, or names them, or all kinds by the empty string
+abbrev pub wants_quick_fix : Data → Bool
+wants_quick_fix params = has_string (codes "/context/only") (codes "quickfix") params
+    || has_string (codes "/context/only") (codes "") params || is_none (pointer (codes "/context/only") params)
+
+-- whether fixes of the whole document are wanted: `only` names them, or what they are part of
+abbrev pub wants_fix_all : Data → Bool
+wants_fix_all params = has_string (codes "/context/only") (codes "source.fixAll") params
+    || has_string (codes "/context/only") (codes "source") params || has_string (codes "/context/only") (codes "") params
+
+abbrev pub action_filter : Data → Option ActionFilter
+action_filter params =
+    option_map (λ (range : TextRange). record { range = range; quick_fix = wants_quick_fix params; fix_all = wants_fix_all params }) (range_at (codes "/range") params)
+
+abbrev pub action_from : Option (List ℕ) → Option ActionFilter → RequestView
+action_from (Some uri) (Some filter) = code_action uri filter
+action_from (Some uri) None = invalid_params
+action_from None filter = invalid_params
 
 abbrev pub symbol_from : Option (List ℕ) → RequestView
 symbol_from None = invalid_params
@@ -117,10 +145,11 @@ symbol_from (Some uri) = document_symbol uri
 
 abbrev pub request_of : List ℕ → Data → RequestView
 request_of method params =
-    if bytes_eq method (codes "initialize") then initialize (encoding_of params)
+    if bytes_eq method (codes "initialize") then initialize (client_of params)
     else if bytes_eq method (codes "shutdown") then shutdown
     else if bytes_eq method (codes "textDocument/hover") then hover_from (uri_of params) (position_at (codes "/position") params)
-    else if bytes_eq method (codes "textDocument/codeAction") then action_from (wanted_kind params) (uri_of params)
+    else if bytes_eq method (codes "textDocument/definition") then definition_from (uri_of params) (position_at (codes "/position") params)
+    else if bytes_eq method (codes "textDocument/codeAction") then action_from (uri_of params) (action_filter params)
     else if bytes_eq method (codes "textDocument/documentSymbol") then symbol_from (uri_of params)
     else unknown_method
 

@@ -42,6 +42,10 @@ position_before p q = nat_lt p.line q.line || ((p.line == q.line) && nat_lt p.ch
 abbrev pub touches : TextRange → Position → Bool
 touches range at = not (position_before at range.start) && not (position_before range.end at)
 
+-- whether two ranges have a position in common, be it at their ends
+abbrev pub meets : TextRange → TextRange → Bool
+meets range other = not (position_before other.end range.start) && not (position_before range.end other.start)
+
 -- ---- from positions to offsets
 
 -- the number of bytes in the first n lines, or in all if there are fewer

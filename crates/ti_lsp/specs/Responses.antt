@@ -49,10 +49,11 @@ capabilities_of encoding = object
     (member (codes "codeActionProvider") (object
     (member (codes "codeActionKinds") (array
     (item (string (codes "quickfix")) (item (string (codes "source.fixAll")) no_items))) no_members))
+    (member (codes "definitionProvider") (boolean true)
     (member (codes "documentSymbolProvider") (boolean true)
     (member (codes "hoverProvider") (boolean true)
     (member (codes "positionEncoding") (string (encoding_name encoding))
     (member (codes "textDocumentSync") (object
     (member (codes "change") (number (unsigned 2))
-    (member (codes "openClose") (boolean true) no_members))) no_members))))))
+    (member (codes "openClose") (boolean true) no_members))) no_members)))))))
     (member (codes "serverInfo") (object (member (codes "name") (string (codes "titan_lsp")) no_members)) no_members))

@@ -8,16 +8,17 @@ use Rattle.ti_lsp.specs.declared.message.Notification.{Notification}
 use Rattle.ti_lsp.specs.declared.message.Notification.TheVariants as notifications
 use Rattle.ti_lsp.specs.declared.message.Message.{Message}
 use Rattle.ti_lsp.specs.declared.message.Message.TheVariants as messages
-use Rattle.ti_lsp.specs.Messages.{ChangeView, RequestView, NotificationView, MessageView, initialize, shutdown, hover, code_action, document_symbol, invalid_params, unknown_method, exit, opened, changed, closed, other, request, notification, response, invalid}
+use Rattle.ti_lsp.specs.Messages.{ChangeView, RequestView, NotificationView, MessageView, initialize, shutdown, hover, definition, code_action, document_symbol, invalid_params, unknown_method, exit, opened, changed, closed, other, request, notification, response, invalid}
 
 abbrev pub change_view : Change → ChangeView
 change_view c = record { range = c.range; new_text = string_bytes c.text }
 
 abbrev pub request_view : Request → RequestView
-request_view (requests.Initialize encoding) = initialize encoding
+request_view (requests.Initialize client) = initialize client
 request_view requests.Shutdown = shutdown
 request_view (requests.Hover uri at) = hover (string_bytes uri) at
-request_view (requests.CodeAction uri kind) = code_action (string_bytes uri) kind
+request_view (requests.Definition uri at) = definition (string_bytes uri) at
+request_view (requests.CodeAction uri filter) = code_action (string_bytes uri) filter
 request_view (requests.DocumentSymbol uri) = document_symbol (string_bytes uri)
 request_view requests.InvalidParams = invalid_params
 request_view requests.UnknownMethod = unknown_method

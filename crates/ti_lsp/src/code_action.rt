@@ -1,12 +1,12 @@
-// The code action that applies the edits of a suggestion.
-ghost use Rattle.std.specs.Prelude.{◌≡◌, string_bytes, IfOk, map};
-ghost use Rattle.serde_json.specs.Data.{null};
-ghost use Rattle.serde_json.specs.View.{items_of, view};
-ghost use Rattle.ti_lsp.specs.Diagnostics.{actions_of, edit_data, action_kind_name};
+// Code actions: the edits of suggestions, as a client asks for them.
+ghost use Rattle.std.specs.Prelude.{◌≡◌, IfOk, map};
+ghost use Rattle.serde_json.specs.View.{view};
+ghost use Rattle.ti_lsp.specs.Actions.{action_data, action_kind_name, any_meets, edit_data, edits_data};
+ghost use Rattle.ti_lsp.specs.Actions.{is_near, kind_for};
 
-use crate::message::ActionKind;
+use crate::message::{ActionFilter, ActionKind};
 use crate::publishing::{bytes_range, diagnostic_value, range_value};
-use crate::{Diagnostic, PositionEncoding, TextEdit};
+use crate::{Client, Diagnostic, PositionEncoding, Suggestion, TextEdit, TextRange};
 use serde_json::{Value, json};
 use std::alloc::{AllocError, Global};
 
@@ -22,16 +22,62 @@ impl ActionKind {
     }
 }
 
+// Whether one of these edits meets a range.
+fn any_meets(encoding: PositionEncoding, text: &str, edits: &[TextEdit], range: TextRange) -> bool
+    ensures { result ≡ any_meets encoding text.now edits.now range }
+{
+    for edit in edits {
+        if bytes_range(encoding, text, edit.start, edit.end).meets(range) {
+            return true;
+        }
+    }
+    false
+}
+
+// Whether the error of a text or one of the edits for it meets a range.
+fn is_near(
+    encoding: PositionEncoding,
+    text: &str,
+    diagnostic: &Diagnostic,
+    edits: &[TextEdit],
+    range: TextRange,
+) -> bool
+    ensures { result ≡ is_near encoding text.now diagnostic.now edits.now range }
+{
+    let error = bytes_range(encoding, text, diagnostic.start, diagnostic.end);
+    error.meets(range) || any_meets(encoding, text, edits, range)
+}
+
+/// The kind of action as which a suggestion is wanted by this client, if it is.
+pub fn kind_for(
+    encoding: PositionEncoding,
+    text: &str,
+    diagnostic: &Diagnostic,
+    suggestion: &Suggestion,
+    filter: ActionFilter,
+) -> Option<ActionKind>
+    ensures { result ≡ kind_for encoding text.now diagnostic.now suggestion.now filter }
+{
+    let is_near = is_near(encoding, text, diagnostic, &suggestion.edits, filter.range);
+    if filter.quick_fix && is_near {
+        Some(ActionKind::QuickFix)
+    } else if filter.fix_all && suggestion.is_automatic {
+        Some(ActionKind::FixAll)
+    } else {
+        None
+    }
+}
+
 fn edit_value(
     alloc: Global,
     encoding: PositionEncoding,
     text: &str,
-    edit: TextEdit,
+    edit: &TextEdit,
 ) -> Result<Value, AllocError>
-    ensures { IfOk result (λ v. view v ≡ edit_data encoding text.now edit) }
+    ensures { IfOk result (λ v. view v ≡ edit_data encoding text.now edit.now) }
 {
     let range = range_value(alloc, bytes_range(encoding, text, edit.start, edit.end))?;
-    json!(in alloc; {"range": range, "newText": (edit.new_text)})
+    json!(in alloc; {"range": range, "newText": (edit.new_text.as_str())})
 }
 
 fn edit_values(
@@ -45,38 +91,42 @@ fn edit_values(
 {
     let mut values = Vec::new(alloc);
     for edit in edits {
-        values.push(edit_value(alloc, encoding, text, *edit)?)?;
+        values.push(edit_value(alloc, encoding, text, edit)?)?;
     }
     Ok(values)
 }
 
-/// The result if there are no code actions: null.
-pub fn no_actions() -> Value
-    ensures { view result ≡ null }
-{
-    Value::Null
-}
-
-/// The code actions for a document with an error: the one that applies these edits.
-pub fn actions_value(
+fn edits_value(
     alloc: Global,
     encoding: PositionEncoding,
-    uri: &str,
-    kind: ActionKind,
     text: &str,
-    diagnostic: Diagnostic,
     edits: &[TextEdit],
 ) -> Result<Value, AllocError>
-    ensures { IfOk result (λ v. view v
-        ≡ actions_of encoding uri.now kind text.now diagnostic edits.now) }
+    ensures { IfOk result (λ v. view v ≡ edits_data encoding text.now edits.now) }
 {
-    let diagnostic = diagnostic_value(alloc, encoding, text, diagnostic)?;
-    let edits = Value::Array(edit_values(alloc, encoding, text, edits)?);
-    json!(in alloc; [{
-        "title": "Insert `single` where it belongs",
+    Ok(Value::Array(edit_values(alloc, encoding, text, edits)?))
+}
+
+/// The code action of this kind for a document with an error: it applies the edits of a suggestion.
+pub fn action_value(
+    alloc: Global,
+    client: Client,
+    uri: &str,
+    text: &str,
+    diagnostic: &Diagnostic,
+    suggestion: &Suggestion,
+    kind: ActionKind,
+) -> Result<Value, AllocError>
+    ensures { IfOk result (λ v. view v
+        ≡ action_data client uri.now text.now diagnostic.now suggestion.now kind) }
+{
+    let diagnostic = diagnostic_value(alloc, client, uri, text, diagnostic)?;
+    let edits = edits_value(alloc, client.encoding, text, &suggestion.edits)?;
+    json!(in alloc; {
+        "title": (suggestion.title.as_str()),
         "kind": (kind.name()),
-        "isPreferred": true,
+        "isPreferred": (suggestion.is_automatic),
         "diagnostics": [diagnostic],
         "edit": {"changes": {(uri): edits}}
-    }])
+    })
 }

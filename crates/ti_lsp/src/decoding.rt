@@ -6,8 +6,8 @@ ghost use Rattle.ti_lsp.specs.Messages as decoded;
 ghost use Rattle.ti_lsp.specs.Views.{change_view, message_view, notification_view, request_view};
 
 use crate::edit::Change;
-use crate::message::{ActionKind, Message, Notification, Request};
-use crate::{Position, PositionEncoding, TextRange};
+use crate::message::{ActionFilter, Message, Notification, Request};
+use crate::{Client, Position, PositionEncoding, TextRange};
 use serde_json::Value;
 use std::alloc::{AllocError, Global};
 
@@ -64,6 +64,16 @@ fn range_in(value: &Value) -> Option<TextRange>
     }
 }
 
+// The range at a path.
+fn range_at(value: &Value, path: &str) -> Option<TextRange>
+    ensures { result ≡ decoded.range_at path.now (view value.now) }
+{
+    match value.pointer(path) {
+        Some(range) => range_in(range),
+        None => None,
+    }
+}
+
 fn is_string(item: &Value, wanted: &str) -> bool
     ensures { result ≡ decoded.is_string wanted.now (view item.now) }
 {
@@ -111,6 +121,30 @@ fn encoding_of(params: &Value) -> PositionEncoding
     }
 }
 
+// Whether the value at a path is the boolean true.
+fn is_true(value: &Value, path: &str) -> bool
+    ensures { result ≡ decoded.is_true path.now (view value.now) }
+{
+    let Some(found) = value.pointer(path) else {
+        return false;
+    };
+    match found.as_bool() {
+        Some(is_true) => is_true,
+        None => false,
+    }
+}
+
+// What a client supports.
+fn client_of(params: &Value) -> Client
+    ensures { result ≡ decoded.client_of (view params.now) }
+{
+    let related = "/capabilities/textDocument/publishDiagnostics/relatedInformation";
+    Client {
+        encoding: encoding_of(params),
+        accepts_related: is_true(params, related),
+    }
+}
+
 // A copy of a string.
 fn owned(alloc: Global, text: Option<&str>) -> Result<Option<String>, AllocError>
     ensures { IfOk result (λ o. option_map string_bytes o ≡ option_map (λ t. t.now) text.entry) }
@@ -137,26 +171,55 @@ fn hover_request(uri: Option<String>, at: Option<Position>) -> Request
     }
 }
 
-// The kind of code action that a client wants. A client that names none wants quick fixes.
-fn wanted_kind(params: &Value) -> Option<ActionKind>
-    ensures { result ≡ decoded.wanted_kind (view params.now) }
+fn definition_request(uri: Option<String>, at: Option<Position>) -> Request
+    ensures { request_view result ≡ decoded.definition_from (option_map string_bytes uri) at }
 {
-    let path = "/context/only";
-    if has_string(params, path, "source.fixAll") || has_string(params, path, "source") {
-        Some(ActionKind::FixAll)
-    } else if has_string(params, path, "quickfix") || params.pointer(path).is_none() {
-        Some(ActionKind::QuickFix)
-    } else {
-        None
+    match (uri, at) {
+        (Some(uri), Some(at)) => Request::Definition(uri, at),
+        _ => Request::InvalidParams,
     }
 }
 
-fn action_request(kind: Option<ActionKind>, uri: Option<String>) -> Request
-    ensures { request_view result ≡ decoded.action_from kind (option_map string_bytes uri) }
+// Whether a client wants quick fixes. One that names no kind does.
+fn wants_quick_fix(params: &Value) -> bool
+    ensures { result ≡ decoded.wants_quick_fix (view params.now) }
 {
-    match uri {
-        Some(uri) => Request::CodeAction(uri, kind),
-        None => Request::InvalidParams,
+    let only = "/context/only";
+    has_string(params, only, "quickfix")
+        || has_string(params, only, "")
+        || params.pointer(only).is_none()
+}
+
+// Whether a client wants fixes of the whole document, by their kind or by one that it is part of.
+fn wants_fix_all(params: &Value) -> bool
+    ensures { result ≡ decoded.wants_fix_all (view params.now) }
+{
+    let only = "/context/only";
+    has_string(params, only, "source.fixAll")
+        || has_string(params, only, "source")
+        || has_string(params, only, "")
+}
+
+// Which code actions a client wants. None if it gives no range.
+fn action_filter(params: &Value) -> Option<ActionFilter>
+    ensures { result ≡ decoded.action_filter (view params.now) }
+{
+    match range_at(params, "/range") {
+        Some(range) => Some(ActionFilter {
+            range,
+            quick_fix: wants_quick_fix(params),
+            fix_all: wants_fix_all(params),
+        }),
+        None => None,
+    }
+}
+
+fn action_request(uri: Option<String>, filter: Option<ActionFilter>) -> Request
+    ensures { request_view result ≡ decoded.action_from (option_map string_bytes uri) filter }
+{
+    match (uri, filter) {
+        (Some(uri), Some(filter)) => Request::CodeAction(uri, filter),
+        _ => Request::InvalidParams,
     }
 }
 
@@ -175,15 +238,19 @@ fn decode_request(alloc: Global, method: &str, params: &Value) -> Result<Request
         ≡ decoded.request_of method.now (view params.now)) }
 {
     match method {
-        "initialize" => Ok(Request::Initialize(encoding_of(params))),
+        "initialize" => Ok(Request::Initialize(client_of(params))),
         "shutdown" => Ok(Request::Shutdown),
         "textDocument/hover" => {
             let uri = uri_of(alloc, params)?;
             Ok(hover_request(uri, position_at(params, "/position")))
         }
+        "textDocument/definition" => {
+            let uri = uri_of(alloc, params)?;
+            Ok(definition_request(uri, position_at(params, "/position")))
+        }
         "textDocument/codeAction" => {
             let uri = uri_of(alloc, params)?;
-            Ok(action_request(wanted_kind(params), uri))
+            Ok(action_request(uri, action_filter(params)))
         }
         "textDocument/documentSymbol" => Ok(symbol_request(uri_of(alloc, params)?)),
         _ => Ok(Request::UnknownMethod),

@@ -1,6 +1,6 @@
 // Documents that a client has open.
 
-use crate::{Diagnostic, TextEdit};
+use crate::{Diagnostic, Suggestion};
 
 /// A document that a client has open. What was found in its text is stored with it, so that requests don't analyze it again.
 #[derive(Drop)]
@@ -11,5 +11,5 @@ pub struct Document {
     /// The error of the text, if it has one.
     pub diagnostic: Option<Diagnostic>,
     /// Edits that may fix the text.
-    pub suggestion: Option<Vec<TextEdit>>,
+    pub suggestions: Vec<Suggestion>,
 }

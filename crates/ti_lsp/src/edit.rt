@@ -8,14 +8,14 @@ use crate::{PositionEncoding, TextRange};
 use std::alloc::{AllocError, Global};
 
 /// An edit that a server suggests: the bytes of a range are replaced.
-#[derive(Clone, Copy, Debug, PartialEq, Eq)]
+#[derive(Drop)]
 pub struct TextEdit {
     /// The offset of the first byte of the range.
     pub start: usize,
     /// The offset of the first byte after the range.
     pub end: usize,
     /// What stands there afterwards.
-    pub new_text: &'static str,
+    pub new_text: String,
 }
 
 /// A change that a client reports: of a range, or of the whole text.
@@ -27,8 +27,8 @@ pub struct Change {
 
 impl TextEdit {
     // Whether its range is one of a text of this length, and not before this offset.
-    fn is_next(self, from: usize, len: usize) -> bool
-        ensures { result ≡ is_next from self len }
+    fn is_next(&self, from: usize, len: usize) -> bool
+        ensures { result ≡ is_next from self.now len }
     {
         from <= self.start && self.start <= self.end && self.end <= len
     }
@@ -50,7 +50,7 @@ pub fn apply_edits(
             return Ok(None);
         }
         new.extend_from_slice(&text[from..edit.start])?;
-        new.extend_from_slice(edit.new_text.as_bytes())?;
+        new.extend_from_slice(edit.new_text.as_str().as_bytes())?;
         from = edit.end;
     }
     new.extend_from_slice(&text[from..])?;

@@ -4,6 +4,7 @@
 #![tactic(auto)]
 
 mod analyzer;
+mod client;
 mod code_action;
 mod decoding;
 mod diagnostic;
@@ -11,18 +12,23 @@ mod document;
 mod edit;
 mod hover;
 mod message;
+mod name;
 mod position;
 mod publishing;
 mod response;
 mod session;
+mod suggestion;
 mod symbol;
 
 pub use analyzer::Analyzer;
-pub use diagnostic::Diagnostic;
+pub use client::Client;
+pub use diagnostic::{Diagnostic, Related};
 pub use edit::{Change, TextEdit, apply_changes, apply_edits};
+pub use name::KnownName;
 pub use position::{
     Position, PositionEncoding, TextRange, columns_are_units, offset_at, position_at,
 };
 pub use response::parse_error;
 pub use session::{Phase, Session};
+pub use suggestion::Suggestion;
 pub use symbol::{Symbol, SymbolKind};

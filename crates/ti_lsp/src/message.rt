@@ -1,7 +1,7 @@
 // Messages of a client, as far as a server needs them.
 
 use crate::edit::Change;
-use crate::{Position, PositionEncoding};
+use crate::{Client, Position, TextRange};
 use serde_json::Value;
 
 /// The kinds of code actions that there are.
@@ -13,17 +13,30 @@ pub enum ActionKind {
     FixAll,
 }
 
+/// Which code actions a client asks for.
+#[derive(Clone, Copy, Debug, PartialEq, Eq)]
+pub struct ActionFilter {
+    /// The range of the document for which quick fixes are wanted.
+    pub range: TextRange,
+    /// Whether quick fixes are wanted.
+    pub quick_fix: bool,
+    /// Whether fixes of the whole document are wanted that need no choice.
+    pub fix_all: bool,
+}
+
 /// What a request asks for.
 #[derive(Drop)]
 pub enum Request {
-    /// `initialize`, with the position encoding that is chosen from the client's.
-    Initialize(PositionEncoding),
+    /// `initialize`, with what the client supports.
+    Initialize(Client),
     /// `shutdown`.
     Shutdown,
     /// `textDocument/hover`: the document's URI and the position.
     Hover(String, Position),
-    /// `textDocument/codeAction`: the document's URI and the kind that is wanted, if it is one that there is.
-    CodeAction(String, Option<ActionKind>),
+    /// `textDocument/definition`: the document's URI and the position.
+    Definition(String, Position),
+    /// `textDocument/codeAction`: the document's URI and which actions are wanted.
+    CodeAction(String, ActionFilter),
     /// `textDocument/documentSymbol`: the document's URI.
     DocumentSymbol(String),
     /// One of these with invalid parameters.

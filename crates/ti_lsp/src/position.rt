@@ -5,7 +5,7 @@ ghost use Rattle.std.specs.Char.Escape.{encode_utf16};
 ghost use Rattle.std.specs.List.{flat_map};
 ghost use Rattle.std.specs.Str.{encode_utf8_all};
 ghost use Rattle.ti_lsp.specs.Positions.{cost, ends_line, is_lead, is_long, last_line, last_line_len};
-ghost use Rattle.ti_lsp.specs.Positions.{lines_len, offset_of, position_before, position_of, exceeds_units};
+ghost use Rattle.ti_lsp.specs.Positions.{lines_len, meets, offset_of, position_before, position_of, exceeds_units};
 ghost use Rattle.ti_lsp.specs.Positions.{touches, units_len, units_of, width_of};
 ghost use Rattle.ti_lsp.specs.Responses.{encoding_name};
 
@@ -44,6 +44,13 @@ impl Position {
 }
 
 impl TextRange {
+    /// Whether two ranges have a position in common, be it at their ends.
+    pub fn meets(self, other: Self) -> bool
+        ensures { result ≡ meets self other }
+    {
+        !other.end.is_before(self.start) && !self.end.is_before(other.start)
+    }
+
     /// Whether a position is in the range or at one of its ends.
     pub fn touches(self, at: Position) -> bool
         ensures { result ≡ touches self at }

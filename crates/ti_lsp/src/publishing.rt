@@ -1,12 +1,13 @@
 // Diagnostics as JSON, and the notifications that publish them.
-ghost use Rattle.std.specs.Prelude.{◌≡◌, None, IfOk};
+ghost use Rattle.std.specs.Prelude.{◌≡◌, None, IfOk, map, option_map};
 ghost use Rattle.serde_json.specs.Data.{array, no_items};
 ghost use Rattle.serde_json.specs.View.{view};
-ghost use Rattle.ti_lsp.specs.Diagnostics.{bytes_range, diagnostic_of, diagnostics_of, position_data};
-ghost use Rattle.ti_lsp.specs.Diagnostics.{publication_of, publication_params, range_data};
+ghost use Rattle.ti_lsp.specs.Diagnostics.{bytes_range, diagnostic_of, diagnostics_of, hover_data};
+ghost use Rattle.ti_lsp.specs.Diagnostics.{location_data, position_data, publication_of};
+ghost use Rattle.ti_lsp.specs.Diagnostics.{publication_params, range_data, related_data, related_list};
 
 use crate::position::position_at;
-use crate::{Diagnostic, Position, PositionEncoding, TextRange};
+use crate::{Client, Diagnostic, Position, PositionEncoding, Related, TextRange};
 use serde_json::{Value, json};
 use std::alloc::{AllocError, Global};
 
@@ -38,38 +39,116 @@ pub fn range_value(alloc: Global, range: TextRange) -> Result<Value, AllocError>
     json!(in alloc; {"start": start, "end": end})
 }
 
-/// A diagnostic of a text as JSON.
-pub fn diagnostic_value(
+/// Some bytes of a document as a location.
+pub fn location_value(
     alloc: Global,
     encoding: PositionEncoding,
+    uri: &str,
     text: &str,
-    diagnostic: Diagnostic,
+    start: usize,
+    end: usize,
 ) -> Result<Value, AllocError>
-    ensures { IfOk result (λ v. view v ≡ diagnostic_of encoding text.now diagnostic) }
+    ensures { IfOk result (λ v. view v ≡ location_data encoding uri.now text.now start end) }
 {
-    let range = bytes_range(encoding, text, diagnostic.start, diagnostic.end);
+    let range = range_value(alloc, bytes_range(encoding, text, start, end))?;
+    json!(in alloc; {"uri": uri, "range": range})
+}
+
+/// A hover: what is said of a range, as Markdown.
+pub fn hover_value(alloc: Global, said: &str, range: Value) -> Result<Value, AllocError>
+    ensures { IfOk result (λ v. view v ≡ hover_data said.now (view range)) }
+{
+    json!(in alloc; {"contents": {"kind": "markdown", "value": said}, "range": range})
+}
+
+// A related place of a document, with what is said of it.
+fn related_value(
+    alloc: Global,
+    encoding: PositionEncoding,
+    uri: &str,
+    text: &str,
+    related: &Related,
+) -> Result<Value, AllocError>
+    ensures { IfOk result (λ v. view v ≡ related_data encoding uri.now text.now related.now) }
+{
+    let location = location_value(alloc, encoding, uri, text, related.start, related.end)?;
+    json!(in alloc; {"location": location, "message": (related.message.as_str())})
+}
+
+fn related_values(
+    alloc: Global,
+    encoding: PositionEncoding,
+    uri: &str,
+    text: &str,
+    places: &[Related],
+) -> Result<Vec<Value>, AllocError>
+    ensures { IfOk result (λ vs. map view vs.items
+        ≡ map (related_data encoding uri.now text.now) places.now) }
+{
+    let mut values = Vec::new(alloc);
+    for related in places {
+        values.push(related_value(alloc, encoding, uri, text, related)?)?;
+    }
+    Ok(values)
+}
+
+fn related_list(
+    alloc: Global,
+    encoding: PositionEncoding,
+    uri: &str,
+    text: &str,
+    places: &[Related],
+) -> Result<Value, AllocError>
+    ensures { IfOk result (λ v. view v ≡ related_list encoding uri.now text.now places.now) }
+{
+    Ok(Value::Array(related_values(alloc, encoding, uri, text, places)?))
+}
+
+/// A diagnostic of a document as JSON, with its related places if the client accepts them.
+pub fn diagnostic_value(
+    alloc: Global,
+    client: Client,
+    uri: &str,
+    text: &str,
+    diagnostic: &Diagnostic,
+) -> Result<Value, AllocError>
+    ensures { IfOk result (λ v. view v ≡ diagnostic_of client uri.now text.now diagnostic.now) }
+{
+    let range = bytes_range(client.encoding, text, diagnostic.start, diagnostic.end);
     let range = range_value(alloc, range)?;
+    if !client.accepts_related {
+        return json!(in alloc; {
+            "range": range,
+            "severity": 1u32,
+            "code": (diagnostic.code),
+            "source": "titan",
+            "message": (diagnostic.message)
+        });
+    }
+    let related = related_list(alloc, client.encoding, uri, text, &diagnostic.related)?;
     json!(in alloc; {
         "range": range,
         "severity": 1u32,
         "code": (diagnostic.code),
         "source": "titan",
-        "message": (diagnostic.message)
+        "message": (diagnostic.message),
+        "relatedInformation": related
     })
 }
 
-// The diagnostics of a text as JSON.
+// The diagnostics of a document as JSON.
 fn diagnostics_value(
     alloc: Global,
-    encoding: PositionEncoding,
+    client: Client,
+    uri: &str,
     text: &str,
-    diagnostic: Option<Diagnostic>,
+    diagnostic: &Option<Diagnostic>,
 ) -> Result<Value, AllocError>
-    ensures { IfOk result (λ v. view v ≡ diagnostics_of encoding text.now diagnostic) }
+    ensures { IfOk result (λ v. view v ≡ diagnostics_of client uri.now text.now diagnostic.now) }
 {
     match diagnostic {
         Some(diagnostic) => {
-            let value = diagnostic_value(alloc, encoding, text, diagnostic)?;
+            let value = diagnostic_value(alloc, client, uri, text, diagnostic)?;
             json!(in alloc; [value])
         }
         None => Ok(Value::Array(Vec::new(alloc))),
@@ -112,16 +191,16 @@ fn publication(
 /// The notification of the diagnostics of a document.
 pub fn publish_diagnostics(
     alloc: Global,
-    encoding: PositionEncoding,
+    client: Client,
     uri: &str,
     version: Option<i64>,
     text: &str,
-    diagnostic: Option<Diagnostic>,
+    diagnostic: &Option<Diagnostic>,
 ) -> Result<Value, AllocError>
-    ensures { IfOk result (λ v. view v
-        ≡ publication_of uri.now version (diagnostics_of encoding text.now diagnostic)) }
+    ensures { IfOk result (λ v. view v ≡ publication_of uri.now version
+        (diagnostics_of client uri.now text.now diagnostic.now)) }
 {
-    let diagnostics = diagnostics_value(alloc, encoding, text, diagnostic)?;
+    let diagnostics = diagnostics_value(alloc, client, uri, text, diagnostic)?;
     publication(alloc, uri, version, diagnostics)
 }
 

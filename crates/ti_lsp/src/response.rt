@@ -80,6 +80,7 @@ pub fn capabilities(alloc: Global, encoding: PositionEncoding) -> Result<Value, 
             "positionEncoding": (encoding.name()),
             "textDocumentSync": {"openClose": true, "change": 2u32},
             "hoverProvider": true,
+            "definitionProvider": true,
             "documentSymbolProvider": true,
             "codeActionProvider": {"codeActionKinds": ["quickfix", "source.fixAll"]}
         },

@@ -4,24 +4,28 @@ ghost use Rattle.std.specs.Prelude.{◌≡◌, ℕ, ℤ, Bool, List, None, Some,
 ghost use Rattle.std.specs.Prelude.{option_map, string_bytes};
 ghost use Rattle.std.specs.BTreeMap.{get_by_text};
 ghost use Rattle.serde_json.specs.View.{view};
-ghost use Rattle.ti_lsp.specs.Analysis.{HasNoDiagnostic, IsFix};
-ghost use Rattle.ti_lsp.specs.Handling.{Changes, Clears, Handles, Initializes, Lists, Offers, Publishes};
-ghost use Rattle.ti_lsp.specs.Handling.{Receives, Responds, RespondsInPhase, Updates};
-ghost use Rattle.ti_lsp.specs.Handling.{changed_text, after_exit, hover_in, is_stale};
+ghost use Rattle.ti_lsp.specs.Analysis.{IsAnalysis, IsFix, IsWholeFix, is_enough};
+ghost use Rattle.ti_lsp.specs.Edits.{edited};
+ghost use Rattle.ti_lsp.specs.Handling.{Changes, Clears, Handles, Hovers, Initializes, Lists, Locates};
+ghost use Rattle.ti_lsp.specs.Handling.{Offers, OffersEach, OffersOne, Publishes};
+ghost use Rattle.ti_lsp.specs.Handling.{Receives, Responds, RespondsInPhase, ShowsKnown, Updates};
+ghost use Rattle.ti_lsp.specs.Handling.{changed_text, after_exit, is_stale};
 ghost use Rattle.ti_lsp.specs.Messages.{message_of};
+ghost use Rattle.ti_lsp.specs.Names.{declaration_data, name_hover};
 ghost use Rattle.ti_lsp.specs.Views.{change_view, notification_view, request_view};
-ghost use Rattle.ti_lsp.specs.declared.edit.TextEdit.{TextEdit as TextEditSeen};
 
-use crate::code_action::{actions_value, no_actions};
+use crate::code_action::{action_value, kind_for};
 use crate::decoding::decode_message;
 use crate::document::Document;
-use crate::edit::{Change, TextEdit, apply_changes, apply_edits};
-use crate::hover::hover_value;
-use crate::message::{ActionKind, Message, Notification, Request};
-use crate::publishing::{clear_diagnostics, publish_diagnostics};
+use crate::edit::{Change, apply_changes, apply_edits};
+use crate::hover::diagnostic_hover;
+use crate::message::{ActionFilter, Message, Notification, Request};
+use crate::name::{declaration_value, name_hover};
+use crate::position::offset_at;
+use crate::publishing::{bytes_range, clear_diagnostics, publish_diagnostics};
 use crate::response::{ErrorCode, capabilities, error_response, success_response};
 use crate::symbol::symbols_value;
-use crate::{Analyzer, Diagnostic, Position, PositionEncoding};
+use crate::{Analyzer, Client, Diagnostic, Position, PositionEncoding, Suggestion};
 use serde_json::Value;
 use std::alloc::{AllocError, Global};
 use std::collections::BTreeMap;
@@ -63,12 +67,43 @@ fn is_stale(old: Option<i64>, new: Option<i64>) -> bool
     }
 }
 
+// Whether it is enough for a fix of this error that this is found afterwards.
+fn is_enough(is_automatic: bool, diagnostic: &Diagnostic, later: &Option<Diagnostic>) -> bool
+    ensures { result ≡ is_enough is_automatic diagnostic.now later.now }
+{
+    match later {
+        Some(later) => !is_automatic && later.start != diagnostic.start,
+        None => true,
+    }
+}
+
+// The text with the edits of a suggestion, if they can be made.
+#[tactic(auto, using(crate::proofs::Fixes::no_edit, crate::proofs::Fixes::not_utf8))]
+fn edited_text(
+    alloc: Global,
+    text: &str,
+    suggestion: &Suggestion,
+) -> Result<Option<String>, AllocError>
+    ensures some { IfOk result (λ o. IfSome o (λ t.
+        edited 0 suggestion.now.edits.items text.now ≡ Some (string_bytes t))) }
+    ensures none { result ≡ Ok None → (fixed : List ℕ)
+        → edited 0 suggestion.now.edits.items text.now ≡ Some fixed → IsUtf8 fixed → ⊥ }
+{
+    let Some(fixed) = apply_edits(alloc, text.as_bytes(), &suggestion.edits)? else {
+        return Ok(None);
+    };
+    match String::from_utf8(fixed) {
+        Ok(fixed) => Ok(Some(fixed)),
+        Err(_) => Ok(None),
+    }
+}
+
 /// A session with a client, over an analyzer of the language.
 #[derive(Drop)]
 pub struct Session<A: Analyzer> {
     analyzer: A,
     phase: Phase,
-    encoding: PositionEncoding,
+    client: Client,
     documents: BTreeMap<String, Document>,
 }
 
@@ -78,13 +113,19 @@ impl<A: Analyzer> Session<A> {
     /// A session before its first message.
     pub fn new(alloc: Global, analyzer: A) -> Self
         ensures state { server_state_of result
-            ≡ record { phase = Phase.Uninitialized; encoding = PositionEncoding.Utf16 } }
+            ≡ record {
+              phase = Phase.Uninitialized;
+              client = record { encoding = PositionEncoding.Utf16; accepts_related = Bool.false };
+            } }
         ensures empty { (uri : List ℕ) → documents_of result uri ≡ None }
     {
         Session {
             analyzer,
             phase: Phase::Uninitialized,
-            encoding: PositionEncoding::Utf16,
+            client: Client {
+                encoding: PositionEncoding::Utf16,
+                accepts_related: false,
+            },
             documents: BTreeMap::new(alloc),
         }
     }
@@ -108,102 +149,180 @@ impl<A: Analyzer> Session<A> {
         ensures documents { self.new.documents ≡ self.old.documents }
     {
         match request {
-            Request::Initialize(encoding) => {
-                let response = success_response(alloc, id, capabilities(alloc, encoding)?)?;
+            Request::Initialize(client) => {
+                let supported = capabilities(alloc, client.encoding)?;
+                let response = success_response(alloc, id, supported)?;
                 self.phase = Phase::Running;
-                self.encoding = encoding;
+                self.client = client;
                 Ok(response)
             }
             _ => error_response(alloc, id, ErrorCode::ServerNotInitialized),
         }
     }
 
-    // The hover at a position of a document.
-    fn hover(&self, alloc: Global, uri: &str, at: Position) -> Result<Value, AllocError>
-        ensures { IfOk result (λ v. view v
-            ≡ hover_in self.now.encoding (get_by_text self.now.documents uri.now) at) }
+    // The hover at the name at a position of a text, or null.
+    #[tactic(auto, using(crate::proofs::Shown::shows_hover, crate::proofs::Shown::shows_nothing))]
+    fn hover_name(&self, alloc: Global, text: &str, at: Position) -> Result<Value, AllocError>
+        ensures { IfOk result (λ v. ShowsKnown self.now.client.encoding text.now at
+            (name_hover self.now.client.encoding text.now) (view v)) }
     {
-        match self.documents.get(uri) {
-            Some(document) => hover_value(alloc, self.encoding, document, at),
+        let encoding = self.client.encoding;
+        let offset = offset_at(encoding, text.as_bytes(), at);
+        match self.analyzer.name_at(alloc, text, offset)? {
+            Some(name) => name_hover(alloc, encoding, text, &name),
             None => Ok(Value::Null),
         }
     }
 
-    // Whether a text has no error.
-    fn is_accepted(&self, alloc: Global, text: &str) -> Result<bool, AllocError>
-        ensures yes { result ≡ Ok Bool.true → HasNoDiagnostic (A.rejects text.now) }
-        ensures no { result ≡ Ok Bool.false → HasNoDiagnostic (A.rejects text.now) → ⊥ }
+    // The hover at a position of a document.
+    #[tactic(auto, using(crate::proofs::Shown::hovers_name, crate::proofs::Shown::hovers_error, crate::proofs::Shown::hovers_beside))]
+    fn hover(&self, alloc: Global, uri: &str, at: Position) -> Result<Value, AllocError>
+        ensures { IfOk result (λ v. Hovers self.now.client.encoding
+            (get_by_text self.now.documents uri.now) at (view v)) }
     {
-        Ok(self.analyzer.analyze(alloc, text)?.is_none())
-    }
-
-    // The edits that are stored with a document, if they fix its text: they are applied, and the edited text is analyzed.
-    #[tactic(auto, using(crate::proofs::Fixes::fixes, crate::proofs::Fixes::not_stored, crate::proofs::Fixes::not_applied, crate::proofs::Fixes::not_text, crate::proofs::Fixes::not_accepted))]
-    fn fix<'d>(
-        &self,
-        alloc: Global,
-        document: &'d Document,
-    ) -> Result<Option<&'d [TextEdit]>, AllocError>
-        ensures some { IfOk result (λ o. IfSome o
-            (λ edits. IsFix A.rejects document.entry.now edits.now)) }
-        ensures none { result ≡ Ok None → (edits : List TextEditSeen)
-            → IsFix A.rejects document.entry.now edits → ⊥ }
-    {
-        let Some(edits) = &document.suggestion else {
-            return Ok(None);
+        let Some(document) = self.documents.get(uri) else {
+            return Ok(Value::Null);
         };
-        let text = document.text.as_str().as_bytes();
-        let Some(fixed) = apply_edits(alloc, text, edits)? else {
-            return Ok(None);
+        let text = document.text.as_str();
+        let Some(diagnostic) = &document.diagnostic else {
+            return self.hover_name(alloc, text, at);
         };
-        let Ok(fixed) = String::from_utf8(fixed) else {
-            return Ok(None);
-        };
-        if self.is_accepted(alloc, &fixed)? {
-            Ok(Some(edits))
+        let encoding = self.client.encoding;
+        if bytes_range(encoding, text, diagnostic.start, diagnostic.end).touches(at) {
+            diagnostic_hover(alloc, encoding, text, diagnostic)
         } else {
-            Ok(None)
+            self.hover_name(alloc, text, at)
         }
     }
 
-    // The code actions for a document, or null.
-    fn actions(
+    // The location at which the name at a position of a text is declared, or null.
+    #[tactic(auto, using(crate::proofs::Shown::shows_location, crate::proofs::Shown::shows_nothing))]
+    fn locate_in(
         &self,
         alloc: Global,
         uri: &str,
-        kind: Option<ActionKind>,
+        text: &str,
+        at: Position,
     ) -> Result<Value, AllocError>
-        ensures { IfOk result (λ v. Offers A.rejects self.now.encoding uri.now kind
+        ensures { IfOk result (λ v. ShowsKnown self.now.client.encoding text.now at
+            (declaration_data self.now.client.encoding uri.now text.now) (view v)) }
+    {
+        let encoding = self.client.encoding;
+        let offset = offset_at(encoding, text.as_bytes(), at);
+        match self.analyzer.name_at(alloc, text, offset)? {
+            Some(name) => declaration_value(alloc, encoding, uri, text, &name),
+            None => Ok(Value::Null),
+        }
+    }
+
+    // The location at which the name at a position of a document is declared, or null.
+    #[tactic(auto, using(crate::proofs::Shown::locates))]
+    fn locate(&self, alloc: Global, uri: &str, at: Position) -> Result<Value, AllocError>
+        ensures { IfOk result (λ v. Locates self.now.client.encoding uri.now
+            (get_by_text self.now.documents uri.now) at (view v)) }
+    {
+        match self.documents.get(uri) {
+            Some(document) => self.locate_in(alloc, uri, document.text.as_str(), at),
+            None => Ok(Value::Null),
+        }
+    }
+
+    // Whether a suggestion fixes an error of a text: its edits are made, and the edited text is analyzed.
+    #[tactic(auto, using(crate::proofs::Fixes::fixes, crate::proofs::Fixes::not_applied, crate::proofs::Fixes::not_enough))]
+    fn is_fix(
+        &self,
+        alloc: Global,
+        text: &str,
+        diagnostic: &Diagnostic,
+        suggestion: &Suggestion,
+    ) -> Result<bool, AllocError>
+        ensures yes { result ≡ Ok Bool.true
+            → IsFix A.rejects text.now diagnostic.now suggestion.now }
+        ensures no { result ≡ Ok Bool.false
+            → IsWholeFix A.rejects text.now suggestion.now → ⊥ }
+    {
+        let Some(fixed) = edited_text(alloc, text, suggestion)? else {
+            return Ok(false);
+        };
+        let later = self.analyzer.analyze(alloc, &fixed)?;
+        Ok(is_enough(suggestion.is_automatic, diagnostic, &later))
+    }
+
+    // The code action of a suggestion, if it is wanted and fixes the error.
+    #[tactic(auto, using(crate::proofs::Fixes::offers_one, crate::proofs::Fixes::not_wanted, crate::proofs::Fixes::no_fix))]
+    fn offer(
+        &self,
+        alloc: Global,
+        uri: &str,
+        filter: ActionFilter,
+        text: &str,
+        diagnostic: &Diagnostic,
+        suggestion: &Suggestion,
+    ) -> Result<Option<Value>, AllocError>
+        ensures { IfOk result (λ o. OffersOne A.rejects self.now.client uri.now filter
+            text.now diagnostic.now suggestion.now (option_map view o)) }
+    {
+        let client = self.client;
+        let Some(kind) = kind_for(client.encoding, text, diagnostic, suggestion, filter) else {
+            return Ok(None);
+        };
+        if !self.is_fix(alloc, text, diagnostic, suggestion)? {
+            return Ok(None);
+        }
+        let action = action_value(alloc, client, uri, text, diagnostic, suggestion, kind)?;
+        Ok(Some(action))
+    }
+
+    // The code actions of suggestions for an error, as far as they are wanted and fix it.
+    #[tactic(auto, using(crate::proofs::Fixes::none_offered, crate::proofs::Fixes::one_offered, crate::proofs::Fixes::one_not_offered))]
+    fn offer_each(
+        &self,
+        alloc: Global,
+        uri: &str,
+        filter: ActionFilter,
+        text: &str,
+        diagnostic: &Diagnostic,
+        suggestions: &[Suggestion],
+    ) -> Result<Vec<Value>, AllocError>
+        ensures { IfOk result (λ vs. OffersEach A.rejects self.now.client uri.now filter
+            text.now diagnostic.now suggestions.now (map view vs.items)) }
+    {
+        let mut actions = Vec::new(alloc);
+        for suggestion in suggestions {
+            if let Some(action) = self.offer(alloc, uri, filter, text, diagnostic, suggestion)? {
+                actions.push(action)?;
+            }
+        }
+        Ok(actions)
+    }
+
+    // The code actions for a document, or null.
+    #[tactic(auto, using(crate::proofs::Fixes::offers_all, crate::proofs::Fixes::offers_nothing))]
+    fn actions(&self, alloc: Global, uri: &str, filter: ActionFilter) -> Result<Value, AllocError>
+        ensures { IfOk result (λ v. Offers A.rejects self.now.client uri.now filter
             (get_by_text self.now.documents uri.now) (view v)) }
     {
-        let Some(kind) = kind else {
-            return Ok(no_actions());
-        };
         let Some(document) = self.documents.get(uri) else {
-            return Ok(no_actions());
+            return Ok(Value::Null);
         };
-        let Some(diagnostic) = document.diagnostic else {
-            return Ok(no_actions());
+        let Some(diagnostic) = &document.diagnostic else {
+            return Ok(Value::Null);
         };
-        let Some(edits) = self.fix(alloc, document)? else {
-            return Ok(no_actions());
-        };
-        let actions = actions_value(
+        let actions = self.offer_each(
             alloc,
-            self.encoding,
             uri,
-            kind,
-            &document.text,
+            filter,
+            document.text.as_str(),
             diagnostic,
-            edits,
+            &document.suggestions,
         )?;
-        Ok(actions)
+        Ok(Value::Array(actions))
     }
 
     // The symbols of a document, or null.
     #[tactic(auto, using(crate::proofs::Fixes::lists))]
     fn symbols(&self, alloc: Global, uri: &str) -> Result<Value, AllocError>
-        ensures { IfOk result (λ v. Lists self.now.encoding uri.now
+        ensures { IfOk result (λ v. Lists self.now.client.encoding uri.now
             (get_by_text self.now.documents uri.now) (view v)) }
     {
         let Some(document) = self.documents.get(uri) else {
@@ -211,12 +330,12 @@ impl<A: Analyzer> Session<A> {
         };
         let text = document.text.as_str();
         let symbols = self.analyzer.symbols(alloc, text)?;
-        let value = symbols_value(alloc, self.encoding, uri, text, &symbols)?;
+        let value = symbols_value(alloc, self.client.encoding, uri, text, &symbols)?;
         Ok(value)
     }
 
     // The response to a request of a running session.
-    #[tactic(auto, using(crate::proofs::Fixes::returns_actions, crate::proofs::Fixes::returns_symbols))]
+    #[tactic(auto, using(crate::proofs::Fixes::returns_such))]
     fn respond(&mut self, alloc: Global, id: &Value, request: Request) -> Result<Value, AllocError>
         ensures response { IfOk result (λ v. Responds A.rejects (documents_of self.old)
             (view id.now) (server_state_of self.old) (request_view request)
@@ -230,9 +349,18 @@ impl<A: Analyzer> Session<A> {
                 self.phase = Phase::ShutDown;
                 Ok(response)
             }
-            Request::Hover(uri, at) => { success_response(alloc, id, self.hover(alloc, &uri, at)?) }
-            Request::CodeAction(uri, kind) => {
-                let actions = self.actions(alloc, &uri, kind)?;
+            Request::Hover(uri, at) => {
+                let hover = self.hover(alloc, &uri, at)?;
+                let response = success_response(alloc, id, hover)?;
+                Ok(response)
+            }
+            Request::Definition(uri, at) => {
+                let location = self.locate(alloc, &uri, at)?;
+                let response = success_response(alloc, id, location)?;
+                Ok(response)
+            }
+            Request::CodeAction(uri, filter) => {
+                let actions = self.actions(alloc, &uri, filter)?;
                 let response = success_response(alloc, id, actions)?;
                 Ok(response)
             }
@@ -263,16 +391,16 @@ impl<A: Analyzer> Session<A> {
     }
 
     // Edits that may fix a text with this error.
-    fn suggestion(
+    fn suggestions(
         &self,
         alloc: Global,
         text: &str,
-        diagnostic: Option<Diagnostic>,
-    ) -> Result<Option<Vec<TextEdit>>, AllocError> {
-        if diagnostic.is_none() {
-            return Ok(None);
+        diagnostic: &Option<Diagnostic>,
+    ) -> Result<Vec<Suggestion>, AllocError> {
+        match diagnostic {
+            Some(diagnostic) => self.analyzer.suggest(alloc, text, diagnostic),
+            None => Ok(Vec::new(alloc)),
         }
-        self.analyzer.suggest(alloc, text)
     }
 
     // Analyzes a text, stores it as a document, and returns the notification of its diagnostics.
@@ -283,20 +411,20 @@ impl<A: Analyzer> Session<A> {
         version: Option<i64>,
         text: String,
     ) -> Result<Value, AllocError>
-        ensures published { IfOk result (λ v. Publishes A.rejects self.old.encoding
+        ensures published { IfOk result (λ v. Publishes A.rejects self.old.client
             (string_bytes uri) version (string_bytes text)
             (documents_of self.old) (documents_of self.new) (Some (view v))) }
         ensures phase { self.new.phase ≡ self.old.phase }
-        ensures encoding { self.new.encoding ≡ self.old.encoding }
+        ensures client { self.new.client ≡ self.old.client }
     {
         let diagnostic = self.analyzer.analyze(alloc, &text)?;
-        let suggestion = self.suggestion(alloc, &text, diagnostic)?;
-        let message = publish_diagnostics(alloc, self.encoding, &uri, version, &text, diagnostic)?;
+        let suggestions = self.suggestions(alloc, &text, &diagnostic)?;
+        let message = publish_diagnostics(alloc, self.client, &uri, version, &text, &diagnostic)?;
         let document = Document {
             version,
             text,
             diagnostic,
-            suggestion,
+            suggestions,
         };
         self.documents.insert(uri, document)?;
         Ok(message)
@@ -311,10 +439,10 @@ impl<A: Analyzer> Session<A> {
         version: Option<i64>,
         changes: &[Change],
     ) -> Result<Option<String>, AllocError>
-        ensures some { IfOk result (λ o. IfSome o (λ t. changed_text self.now.encoding version
+        ensures some { IfOk result (λ o. IfSome o (λ t. changed_text self.now.client.encoding version
             (map change_view changes.now) (get_by_text self.now.documents uri.now)
             ≡ Some (string_bytes t))) }
-        ensures none { result ≡ Ok None → (text : List ℕ) → changed_text self.now.encoding version
+        ensures none { result ≡ Ok None → (text : List ℕ) → changed_text self.now.client.encoding version
             (map change_view changes.now) (get_by_text self.now.documents uri.now) ≡ Some text
             → IsUtf8 text → ⊥ }
     {
@@ -325,7 +453,7 @@ impl<A: Analyzer> Session<A> {
             return Ok(None);
         }
         let old = document.text.as_str().as_bytes();
-        let new = apply_changes(alloc, self.encoding, old, changes)?;
+        let new = apply_changes(alloc, self.client.encoding, old, changes)?;
         match String::from_utf8(new) {
             Ok(text) => Ok(Some(text)),
             Err(_) => Ok(None),
@@ -341,11 +469,11 @@ impl<A: Analyzer> Session<A> {
         version: Option<i64>,
         changes: &[Change],
     ) -> Result<Option<Value>, AllocError>
-        ensures changed { IfOk result (λ o. Changes A.rejects self.old.encoding
+        ensures changed { IfOk result (λ o. Changes A.rejects self.old.client
             (string_bytes uri) version (map change_view changes.now)
             (documents_of self.old) (documents_of self.new) (option_map view o)) }
         ensures phase { self.new.phase ≡ self.old.phase }
-        ensures encoding { self.new.encoding ≡ self.old.encoding }
+        ensures client { self.new.client ≡ self.old.client }
     {
         let Some(text) = self.changed_text(alloc, &uri, version, changes)? else {
             return Ok(None);
@@ -358,7 +486,7 @@ impl<A: Analyzer> Session<A> {
         ensures cleared { IfOk result (λ v. Clears uri.now
             (documents_of self.old) (documents_of self.new) (Some (view v))) }
         ensures phase { self.new.phase ≡ self.old.phase }
-        ensures encoding { self.new.encoding ≡ self.old.encoding }
+        ensures client { self.new.client ≡ self.old.client }
     {
         let message = clear_diagnostics(alloc, uri)?;
         self.documents.remove(uri);
@@ -371,11 +499,11 @@ impl<A: Analyzer> Session<A> {
         alloc: Global,
         notification: Notification,
     ) -> Result<Option<Value>, AllocError>
-        ensures updated { IfOk result (λ o. Updates A.rejects self.old.encoding
+        ensures updated { IfOk result (λ o. Updates A.rejects self.old.client
             (notification_view notification) (documents_of self.old) (documents_of self.new)
             (option_map view o)) }
         ensures phase { self.new.phase ≡ self.old.phase }
-        ensures encoding { self.new.encoding ≡ self.old.encoding }
+        ensures client { self.new.client ≡ self.old.client }
     {
         match notification {
             Notification::Opened(uri, version, text) => {

@@ -69,7 +69,7 @@ pub record ServesMessage (rejects : List ℕ → Diagnostic → Type 0) (before 
 
 -- the state of a session before its first message
 abbrev pub initial : State
-initial = record { phase = Uninitialized; encoding = Utf16 }
+initial = record { phase = Uninitialized; client = record { encoding = Utf16; accepts_related = false } }
 
 -- all that was read and written since a session began without documents, if the bytes of reader and writer are known
 pub record HasServed (rejects : List ℕ → Diagnostic → Type 0) (in_old in_new out_old out_new : Option (List ℕ)) (after : Documents) (t : State) : Type 0 where

@@ -1,6 +1,6 @@
 use Rattle.std.proofs.Common.{◌≡◌, map, take}
 use Rattle.serde_json.specs.View.{view}
-use Rattle.ti_lsp.specs.Diagnostics.{edit_data}
+use Rattle.ti_lsp.specs.Actions.{edit_data}
 use Rattle.ti_lsp.proofs.code_action.edit_values.Given as goal
 
 abbrev pub invariant-loop-edit : goal.invariant-loop-edit

@@ -1,6 +1,0 @@
-use Rattle.std.proofs.Common.{◌≡◌, length}
-use Rattle.ti_base.specs.Places.{place_of}
-use Rattle.ti_diagnostics.proofs.annotations.token_offsets.Given as goal
-
-abbrev pub invariant-loop-index : goal.invariant-loop-index
-invariant-loop-index l = l.at ≡ place_of l.text l.index
