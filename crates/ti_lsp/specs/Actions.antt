@@ -12,23 +12,23 @@ use Rattle.ti_lsp.specs.declared.position.PositionEncoding.{PositionEncoding}
 use Rattle.ti_lsp.specs.declared.position.TextRange.{TextRange}
 use Rattle.ti_lsp.specs.declared.suggestion.Suggestion.{Suggestion}
 use Rattle.ti_lsp.specs.Diagnostics.{bytes_range, diagnostic_of, diagnostic_range, range_data}
-use Rattle.ti_lsp.specs.Positions.{meets}
+use Rattle.ti_lsp.specs.Positions.{intersects}
 
 -- ---- which are wanted
 
--- whether one of the edits meets the range
-abbrev pub any_meets : PositionEncoding → List ℕ → List TextEdit → TextRange → Bool
-any_meets encoding text [] range = false
-any_meets encoding text (e ∷ es) range = meets (bytes_range encoding text e.start e.end) range || any_meets encoding text es range
+-- whether one of the edits intersects the range
+abbrev pub any_intersects : PositionEncoding → List ℕ → List TextEdit → TextRange → Bool
+any_intersects encoding text [] range = false
+any_intersects encoding text (e ∷ es) range = intersects (bytes_range encoding text e.start e.end) range || any_intersects encoding text es range
 
--- whether the error or one of the edits meets the range
-abbrev pub is_near : PositionEncoding → List ℕ → Diagnostic → List TextEdit → TextRange → Bool
-is_near encoding text d edits range = meets (diagnostic_range encoding text d) range || any_meets encoding text edits range
+-- whether the error or one of the edits intersects the range
+abbrev pub concerns_range : PositionEncoding → List ℕ → Diagnostic → List TextEdit → TextRange → Bool
+concerns_range encoding text d edits range = intersects (diagnostic_range encoding text d) range || any_intersects encoding text edits range
 
 -- the kind of action as which a suggestion is wanted: a quick fix if it is near the range of the request, a fix of the whole document if it needs no choice
 abbrev pub kind_for : PositionEncoding → List ℕ → Diagnostic → Suggestion → ActionFilter → Option ActionKind
 kind_for encoding text d s filter =
-    if filter.quick_fix && is_near encoding text d s.edits.items filter.range then Some QuickFix
+    if filter.quick_fix && concerns_range encoding text d s.edits.items filter.range then Some QuickFix
     else if filter.fix_all && s.is_automatic then Some FixAll
     else None
 

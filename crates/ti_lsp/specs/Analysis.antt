@@ -14,14 +14,14 @@ IsAnalysis rejects None = HasNoDiagnostic rejects
 IsAnalysis rejects (Some diagnostic) = rejects diagnostic
 
 -- whether an error that begins where this one does isn't what is found afterwards
-abbrev pub is_gone : Diagnostic → Option Diagnostic → Bool
-is_gone diagnostic None = true
-is_gone diagnostic (Some later) = not (later.start == diagnostic.start)
+abbrev pub error_is_gone : Diagnostic → Option Diagnostic → Bool
+error_is_gone diagnostic None = true
+error_is_gone diagnostic (Some later) = not (later.start == diagnostic.start)
 
 -- whether it is enough that this is found afterwards: no error after a suggestion that needs no choice, else none that begins where the error did
 abbrev pub is_enough : Bool → Diagnostic → Option Diagnostic → Bool
 is_enough true diagnostic later = is_none later
-is_enough false diagnostic later = is_gone diagnostic later
+is_enough false diagnostic later = error_is_gone diagnostic later
 
 -- the edits of a suggestion change a text to one in which the error isn't found
 pub record IsFix (rejects : List ℕ → Diagnostic → Type 0) (text : List ℕ) (diagnostic : Diagnostic) (suggestion : Suggestion) : Type 0 where

@@ -67,11 +67,11 @@ range_from None end = None
 range_from (Some start) None = None
 range_from (Some start) (Some end) = Some (record { start = start; end = end })
 
-abbrev pub range_in : Data → Option TextRange
-range_in d = range_from (position_at (codes "/start") d) (position_at (codes "/end") d)
+abbrev pub text_range_of : Data → Option TextRange
+text_range_of d = range_from (position_at (codes "/start") d) (position_at (codes "/end") d)
 
-abbrev pub range_at : List ℕ → Data → Option TextRange
-range_at path d = option_and_then range_in (pointer path d)
+abbrev pub text_range_at : List ℕ → Data → Option TextRange
+text_range_at path d = option_and_then text_range_of (pointer path d)
 
 abbrev pub is_string : List ℕ → Data → Bool
 is_string wanted d = unwrap_or (option_map (λ t. bytes_eq t wanted) (as_str d)) false
@@ -132,7 +132,7 @@ wants_fix_all params = has_string (codes "/context/only") (codes "source.fixAll"
 
 abbrev pub action_filter : Data → Option ActionFilter
 action_filter params =
-    option_map (λ (range : TextRange). record { range = range; quick_fix = wants_quick_fix params; fix_all = wants_fix_all params }) (range_at (codes "/range") params)
+    option_map (λ (range : TextRange). record { range = range; quick_fix = wants_quick_fix params; fix_all = wants_fix_all params }) (text_range_at (codes "/range") params)
 
 abbrev pub action_from : Option (List ℕ) → Option ActionFilter → RequestView
 action_from (Some uri) (Some filter) = code_action uri filter
@@ -163,7 +163,7 @@ opened_from None version t = other
 -- the range of a change; none at all if the member is there and is no range
 abbrev pub range_of_member : Option Data → Option (Option TextRange)
 range_of_member None = Some None
-range_of_member (Some d) = option_map Some (range_in d)
+range_of_member (Some d) = option_map Some (text_range_of d)
 
 abbrev pub change_range : Data → Option (Option TextRange)
 change_range d = range_of_member (get (codes "range") d)

@@ -24,15 +24,15 @@ units_of Utf16 bytes = count_by is_lead bytes + count_by is_long bytes
 units_of Utf32 bytes = count_by is_lead bytes
 
 -- the number of bytes after the last line end, and these bytes
-abbrev pub last_line_len : List ℕ → ℕ
-last_line_len front = length (take_while (λ b. not (ends_line b)) (reverse front))
+abbrev pub line_prefix_len : List ℕ → ℕ
+line_prefix_len front = length (take_while (λ b. not (ends_line b)) (reverse front))
 
-abbrev pub last_line : List ℕ → List ℕ
-last_line front = drop (length front - last_line_len front) front
+abbrev pub line_prefix : List ℕ → List ℕ
+line_prefix front = drop (length front - line_prefix_len front) front
 
 -- the position after this prefix of a text
 abbrev pub position_of : PositionEncoding → List ℕ → Position
-position_of encoding front = record { line = count_by ends_line front; character = units_of encoding (last_line front) }
+position_of encoding front = record { line = count_by ends_line front; character = units_of encoding (line_prefix front) }
 
 -- whether p is before q
 abbrev pub position_before : Position → Position → Bool
@@ -43,8 +43,8 @@ abbrev pub touches : TextRange → Position → Bool
 touches range at = not (position_before at range.start) && not (position_before range.end at)
 
 -- whether two ranges have a position in common, be it at their ends
-abbrev pub meets : TextRange → TextRange → Bool
-meets range other = not (position_before other.end range.start) && not (position_before range.end other.start)
+abbrev pub intersects : TextRange → TextRange → Bool
+intersects range other = not (position_before other.end range.start) && not (position_before range.end other.start)
 
 -- ---- from positions to offsets
 

@@ -1,8 +1,8 @@
 // Code actions: the edits of suggestions, as a client asks for them.
 ghost use Rattle.std.specs.Prelude.{◌≡◌, IfOk, map};
 ghost use Rattle.serde_json.specs.View.{view};
-ghost use Rattle.ti_lsp.specs.Actions.{action_data, action_kind_name, any_meets, edit_data, edits_data};
-ghost use Rattle.ti_lsp.specs.Actions.{is_near, kind_for};
+ghost use Rattle.ti_lsp.specs.Actions.{action_data, action_kind_name, any_intersects, edit_data, edits_data};
+ghost use Rattle.ti_lsp.specs.Actions.{concerns_range, kind_for};
 
 use crate::message::{ActionFilter, ActionKind};
 use crate::publishing::{bytes_range, diagnostic_value, range_value};
@@ -22,30 +22,35 @@ impl ActionKind {
     }
 }
 
-// Whether one of these edits meets a range.
-fn any_meets(encoding: PositionEncoding, text: &str, edits: &[TextEdit], range: TextRange) -> bool
-    ensures { result ≡ any_meets encoding text.now edits.now range }
+// Whether one of these edits intersects a range.
+fn any_intersects(
+    encoding: PositionEncoding,
+    text: &str,
+    edits: &[TextEdit],
+    range: TextRange,
+) -> bool
+    ensures { result ≡ any_intersects encoding text.now edits.now range }
 {
     for edit in edits {
-        if bytes_range(encoding, text, edit.start, edit.end).meets(range) {
+        if bytes_range(encoding, text, edit.start, edit.end).intersects(range) {
             return true;
         }
     }
     false
 }
 
-// Whether the error of a text or one of the edits for it meets a range.
-fn is_near(
+// Whether the error of a text or one of the edits for it intersects a range.
+fn concerns_range(
     encoding: PositionEncoding,
     text: &str,
     diagnostic: &Diagnostic,
     edits: &[TextEdit],
     range: TextRange,
 ) -> bool
-    ensures { result ≡ is_near encoding text.now diagnostic.now edits.now range }
+    ensures { result ≡ concerns_range encoding text.now diagnostic.now edits.now range }
 {
     let error = bytes_range(encoding, text, diagnostic.start, diagnostic.end);
-    error.meets(range) || any_meets(encoding, text, edits, range)
+    error.intersects(range) || any_intersects(encoding, text, edits, range)
 }
 
 /// The kind of action as which a suggestion is wanted by this client, if it is.
@@ -58,8 +63,8 @@ pub fn kind_for(
 ) -> Option<ActionKind>
     ensures { result ≡ kind_for encoding text.now diagnostic.now suggestion.now filter }
 {
-    let is_near = is_near(encoding, text, diagnostic, &suggestion.edits, filter.range);
-    if filter.quick_fix && is_near {
+    let is_concerned = concerns_range(encoding, text, diagnostic, &suggestion.edits, filter.range);
+    if filter.quick_fix && is_concerned {
         Some(ActionKind::QuickFix)
     } else if filter.fix_all && suggestion.is_automatic {
         Some(ActionKind::FixAll)

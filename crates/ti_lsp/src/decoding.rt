@@ -55,8 +55,8 @@ fn position_at(value: &Value, path: &str) -> Option<Position>
 }
 
 // A value as a range.
-fn range_in(value: &Value) -> Option<TextRange>
-    ensures { result ≡ decoded.range_in (view value.now) }
+fn text_range_of(value: &Value) -> Option<TextRange>
+    ensures { result ≡ decoded.text_range_of (view value.now) }
 {
     match (position_at(value, "/start"), position_at(value, "/end")) {
         (Some(start), Some(end)) => Some(TextRange { start, end }),
@@ -65,11 +65,11 @@ fn range_in(value: &Value) -> Option<TextRange>
 }
 
 // The range at a path.
-fn range_at(value: &Value, path: &str) -> Option<TextRange>
-    ensures { result ≡ decoded.range_at path.now (view value.now) }
+fn text_range_at(value: &Value, path: &str) -> Option<TextRange>
+    ensures { result ≡ decoded.text_range_at path.now (view value.now) }
 {
     match value.pointer(path) {
-        Some(range) => range_in(range),
+        Some(range) => text_range_of(range),
         None => None,
     }
 }
@@ -204,7 +204,7 @@ fn wants_fix_all(params: &Value) -> bool
 fn action_filter(params: &Value) -> Option<ActionFilter>
     ensures { result ≡ decoded.action_filter (view params.now) }
 {
-    match range_at(params, "/range") {
+    match text_range_at(params, "/range") {
         Some(range) => Some(ActionFilter {
             range,
             quick_fix: wants_quick_fix(params),
@@ -284,7 +284,7 @@ fn change_range(change: &Value) -> Option<Option<TextRange>>
     let Some(range) = change.get("range") else {
         return Some(None);
     };
-    match range_in(range) {
+    match text_range_of(range) {
         Some(range) => Some(Some(range)),
         None => None,
     }

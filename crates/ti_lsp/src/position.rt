@@ -4,8 +4,8 @@ ghost use Rattle.std.specs.Prelude.{◌≡◌, ◌≤◌, ℕ, List, take, lengt
 ghost use Rattle.std.specs.Char.Escape.{encode_utf16};
 ghost use Rattle.std.specs.List.{flat_map};
 ghost use Rattle.std.specs.Str.{encode_utf8_all};
-ghost use Rattle.ti_lsp.specs.Positions.{cost, ends_line, is_lead, is_long, last_line, last_line_len};
-ghost use Rattle.ti_lsp.specs.Positions.{lines_len, meets, offset_of, position_before, position_of, exceeds_units};
+ghost use Rattle.ti_lsp.specs.Positions.{cost, ends_line, is_lead, is_long, line_prefix, line_prefix_len};
+ghost use Rattle.ti_lsp.specs.Positions.{lines_len, intersects, offset_of, position_before, position_of, exceeds_units};
 ghost use Rattle.ti_lsp.specs.Positions.{touches, units_len, units_of, width_of};
 ghost use Rattle.ti_lsp.specs.Responses.{encoding_name};
 
@@ -45,8 +45,8 @@ impl Position {
 
 impl TextRange {
     /// Whether two ranges have a position in common, be it at their ends.
-    pub fn meets(self, other: Self) -> bool
-        ensures { result ≡ meets self other }
+    pub fn intersects(self, other: Self) -> bool
+        ensures { result ≡ intersects self other }
     {
         !other.end.is_before(self.start) && !self.end.is_before(other.start)
     }
@@ -108,8 +108,8 @@ fn count_units(encoding: PositionEncoding, bytes: &[u8]) -> u64
 }
 
 // How many bytes are after the last line end.
-fn last_line_len(bytes: &[u8]) -> usize
-    ensures length { result ≡ last_line_len bytes.now }
+fn line_prefix_len(bytes: &[u8]) -> usize
+    ensures length { result ≡ line_prefix_len bytes.now }
     ensures within { result ≤ length bytes.now }
 {
     bytes
@@ -120,10 +120,10 @@ fn last_line_len(bytes: &[u8]) -> usize
 }
 
 // The bytes after the last line end.
-fn last_line(bytes: &[u8]) -> &[u8]
-    ensures { result.now ≡ last_line bytes.now }
+fn line_prefix(bytes: &[u8]) -> &[u8]
+    ensures { result.now ≡ line_prefix bytes.now }
 {
-    &bytes[bytes.len() - last_line_len(bytes)..]
+    &bytes[bytes.len() - line_prefix_len(bytes)..]
 }
 
 /// The position of a byte of a text, or of its end.
@@ -136,7 +136,7 @@ pub fn position_at(encoding: PositionEncoding, text: &[u8], offset: usize) -> Po
     let front = &text[..offset];
     Position {
         line: count_line_ends(front) as u64,
-        character: count_units(encoding, last_line(front)),
+        character: count_units(encoding, line_prefix(front)),
     }
 }
 
