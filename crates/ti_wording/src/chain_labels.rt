@@ -34,13 +34,13 @@ fn first_words(link: ChainLink) -> &'static str {
         }
         (LinkCause::Value, _) => "it gets a value that may differ between processes",
         (_, LinkPart::Collective) => {
-            "not all processes reach this together: a condition around it may differ between processes"
+            "whether all processes reach this together depends on a condition that may differ between them"
         }
         (_, LinkPart::Method) => {
-            "it is called under a condition that may differ between processes"
+            "whether it is called depends on a condition that may differ between processes"
         }
         (_, LinkPart::Result) => { "which `return` gives it may differ between processes" }
-        (_, _) => "it is set under a condition that may differ between processes",
+        (_, _) => "whether it is set depends on a condition that may differ between processes",
     }
 }
 
