@@ -98,14 +98,15 @@ const OF_THIS_PROC: &str =
     "what comes of `Ti.thisProc()` can't be single: use a value that is the same in all processes, or move what \
      they do together out of here";
 
-// The type of a variable as it is written on the line of its declaration, before the name.
+// The type of a variable as it is written on the line of its declaration, before the name: what follows the last byte there that no type
+// has, which may end a comment.
 fn written_type(line: &[u8], place: Place) -> &[u8] {
     let before = line
         .get(..place.col.saturating_sub(1) as usize)
         .unwrap_or(&[]);
     let mut first = 0;
     for (i, byte) in before.iter().enumerate() {
-        if matches!(*byte, b'(' | b',' | b';' | b'{' | b'}') {
+        if matches!(*byte, b'(' | b',' | b';' | b'{' | b'}' | b'/') {
             first = i.saturating_add(1);
         }
     }

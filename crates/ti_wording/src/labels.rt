@@ -53,13 +53,10 @@ pub fn primary_label(rule: Rule) -> &'static str
     }
 }
 
-// What is said of a variable that is declared without `single`, after its name.
-const DECLARED_PLAIN: &str = "` may differ between processes: it is declared without `single`";
-
 // What is said of a plain part behind the token at its position, by its cause.
 fn behind_token(cause: PlainCause) -> &'static str {
     match cause {
-        PlainCause::Variable => DECLARED_PLAIN,
+        PlainCause::Variable => "` may differ between processes",
         PlainCause::ForeachVariable => {
             "` may differ between processes: the domain of its loop isn't single"
         }
@@ -133,7 +130,7 @@ pub fn reason_label(alloc: Global, kind: &ReasonKind, token: &str) -> Result<Str
         ReasonKind::PlainDeclaration => {
             label.push('`')?;
             label.push_str(token)?;
-            label.push_str(DECLARED_PLAIN)?;
+            label.push_str("` may differ between processes: it is declared without `single`")?;
         }
         ReasonKind::Expected(_) | ReasonKind::ExpectedEnd | ReasonKind::Link(_) => {}
         ReasonKind::NestBegins => label.push_str("the outermost of the nested statements")?,
