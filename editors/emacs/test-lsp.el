@@ -2,8 +2,8 @@
 ;;
 ;;     TITAN_LSP=PROGRAM emacs --batch -L . -l test-lsp.el
 ;;
-;; It waits for the diagnostic, asks for the hover, applies the fix, sees the diagnostic go, and stops the server. The status is 1 if
-;; something fails.
+;; It waits for the diagnostic, asks for the hover, applies the fix, sees the diagnostic go, asks where a variable is declared, and stops
+;; the server. The status is 1 if something fails.
 (package-initialize)
 (require 'flymake)
 (require 'titan-lsp)
@@ -46,5 +46,10 @@
   (eglot--signal-textDocument/didChange)
   (wait-for "no diagnostic" (lambda () (null (flymake-diagnostics))))
   (must-equal "the symbols" (mapcar #'car (assoc-default "Method" (imenu--make-index-alist t))) '("main"))
+  (goto-char (point-min))
+  (search-forward "round < ")
+  (let* ((declared (jsonrpc-request (eglot--current-server-or-lose) :textDocument/definition (eglot--TextDocumentPositionParams)))
+         (start (plist-get (plist-get declared :range) :start)))
+    (must-equal "the definition" (list (plist-get start :line) (plist-get start :character)) '(2 15)))
   (eglot-shutdown (eglot-current-server))
   (say "stopped"))

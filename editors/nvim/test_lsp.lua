@@ -2,8 +2,8 @@
 --
 --     TITAN_LSP=PROGRAM nvim --headless -u NONE -c 'luafile test_lsp.lua'
 --
--- It waits for the diagnostic, asks for the hover, applies the fix, sees the diagnostic go, types another error, and stops the server. The
--- status is 1 if something fails.
+-- It waits for the diagnostic, asks for the hover, applies the fix, sees the diagnostic go, asks where a variable is declared, types another
+-- error, and stops the server. The status is 1 if something fails.
 local path = vim.fn.tempname() .. '.ti'
 local lines = {
   'class Main {', '  public static single void main(String[] args) {', '    int rounds = broadcast 3 from 0;',
@@ -52,6 +52,9 @@ local function test()
   equal(vim.api.nvim_buf_get_lines(buffer, 2, 3, false)[1], '    int single rounds = broadcast 3 from 0;', 'line 3')
   wait(function() return #diagnostics() == 0 end, 'the diagnostic stays')
   equal(#request('textDocument/documentSymbol', {}), 2, 'the number of symbols')
+  local use = lines[4]:find('< rounds') + 1
+  local declared = request('textDocument/definition', { position = { line = 3, character = use } })
+  equal(declared.range.start, { line = 2, character = 15 }, 'the definition')
   vim.api.nvim_buf_set_lines(buffer, 2, 3, false, { '    int single rounds = Ti.thisProc();' })
   wait(function() return #diagnostics() > 0 end, 'no second diagnostic')
   say('typed: ' .. diagnostics()[1].message)

@@ -2,8 +2,8 @@
 //
 //     node test.js PROGRAM
 //
-// It opens a program with an error, looks where a name is declared, lists its symbols, types the missing keyword, and applies the fix; the status is 1 if something is
-// otherwise than it must be.
+// It opens a program with an error, looks where a name is declared, lists its symbols, types the missing keyword, and applies the fix; the
+// status is 1 if something is otherwise than it must be.
 'use strict';
 const Module = require('module');
 const assert = require('assert');
