@@ -33,6 +33,7 @@ pub use laws::{
 };
 pub use name_reason::{MainDefect, NameReason, SoughtName};
 pub use phases::explain;
+pub use plain::plain_part;
 pub use reason::{
     ChainLink, EffectAt, Explanation, GlobalEffect, LinkCause, LinkPart, PlainCause, PlainPart,
     ReasonKind, ReasonSpan, RefusalReason, RefusalReasons,

@@ -21,7 +21,7 @@ use Rattle.ti_explain.specs.declared.reason.RefusalReason.{RefusalReason}
 use Rattle.ti_explain.specs.declared.reason.Explanation.{Explanation}
 use Rattle.ti_explain.specs.Explanations.{AreReasons}
 use Rattle.ti_explain.specs.ReasonSpans.{without_len, HasLengths}
-use Rattle.ti_explain_infer.specs.ChainLinks.{chain_links}
+use Rattle.ti_explain_infer.specs.ChainReasons.{chain_reasons}
 
 -- the program of a text that breaks no rule of bytes, tokens and names
 pub record IsResolved (text : List ℕ) (program : ProgramView) : Type 0 where
@@ -54,7 +54,7 @@ pub data AreInferenceReasons (text : List ℕ) (refusal : Refusal)
   -- no annotations align the collective
   of_chain : (program : ProgramView) (steps : List ChainStep) → refusal.rule ≡ B1
       → IsTextChain text program refusal.place steps
-      → AreInferenceReasons text refusal (chain_links (stripped program) steps)
+      → AreInferenceReasons text refusal (chain_reasons (stripped program) refusal.place steps)
 
 -- the refusal of a text in mode infer, the reasons for it, and their lengths
 pub record IsInferenceExplained (text : List ℕ) (e : Explanation) : Type 0 where

@@ -1,3 +1,5 @@
 pub mod ChainLinks
+pub mod ChainReasons
+pub mod Conditions
 pub mod InferenceReasons
 pub mod Mirrors

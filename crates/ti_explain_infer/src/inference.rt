@@ -9,7 +9,7 @@ ghost use Rattle.ti_explain_infer.specs.InferenceReasons.{IsResolved, IsTypeRefu
 ghost use Rattle.ti_explain_infer.specs.Mirrors.Phases.{neither_before, IsExplainedAs, GivesChainExplained};
 
 use crate::early::{explain_unread, read_program};
-use crate::links::chain_links;
+use crate::links::chain_reasons;
 use std::alloc::Global;
 use ti_base::Memory;
 use ti_check::{CheckErr, check_types};
@@ -70,7 +70,7 @@ fn explain_chain(
 {
     match unaligned_chain(alloc, program)? {
         Some(found) => {
-            let reasons = chain_links(alloc, program, &found.steps)?;
+            let reasons = chain_reasons(alloc, program, found.place, &found.steps)?;
             let refusal = Refusal {
                 rule: Rule::B1,
                 place: found.place,

@@ -1,8 +1,10 @@
-// The links of a chain of constraints, as reasons.
+// A chain of constraints, as reasons.
 ghost use Rattle.std.specs.Prelude.{◌≡◌, ◌++◌, map, IfOk};
 ghost use Rattle.ti_lang.specs.Program.Views.{program_of, numbered_param_of, numbered_params_of, numbered_method_of};
+ghost use Rattle.ti_explain_infer.specs.ChainReasons.{is_collective, is_condition, begins_by_condition, condition_reasons, chain_reasons};
 ghost use Rattle.ti_explain_infer.specs.ChainLinks.{declares_at, method_declares_at, is_among, cause_by, cause_of, variable_part, link_at, step_links, chain_links};
 
+use crate::conditions::condition_part;
 use std::alloc::Global;
 use ti_base::{Memory, Place};
 use ti_blame::{ChainStep, Conclusion, Implication, MarkKind, Reason};
@@ -108,17 +110,78 @@ fn push_link(
     }
 }
 
-/// The links of a chain of constraints of a program, in its order. Errors only if it runs out of memory.
-pub(crate) fn chain_links(
-    alloc: Global,
+// Adds the links of a chain of constraints of a program, in its order.
+fn push_links(
+    reasons: Vec<RefusalReason>,
     program: &Program,
     steps: &[ChainStep],
 ) -> Result<Vec<RefusalReason>, Memory>
-    ensures { IfOk result (λ v. v.items ≡ chain_links (program_of program.now.parts) steps.now) }
+    ensures { IfOk result (λ v. v.items ≡ reasons.items
+        ++ chain_links (program_of program.now.parts) steps.now) }
 {
-    let mut links = Vec::new(alloc);
+    let mut links = reasons;
     for step in steps {
         links = push_link(links, program, *step)?;
     }
     Ok(links)
+}
+
+// ---- the condition before the links
+
+fn is_collective(reason: Reason) -> bool
+    ensures { result ≡ is_collective reason }
+{
+    matches!(reason, Reason::OfCollective(_))
+}
+
+fn is_condition(cause: LinkCause) -> bool
+    ensures { result ≡ is_condition cause }
+{
+    matches!(cause, LinkCause::Condition)
+}
+
+// Whether the chain begins at a collective, which a condition rules out by itself.
+fn begins_by_condition(steps: &[ChainStep]) -> bool
+    ensures { result ≡ begins_by_condition steps.now }
+{
+    match steps.first() {
+        Some(step) => is_collective(step.ruled_out) && is_condition(cause_of(step.implication)),
+        None => false,
+    }
+}
+
+fn condition_reasons(
+    alloc: Global,
+    program: &Program,
+    place: Place,
+    steps: &[ChainStep],
+) -> Result<Vec<RefusalReason>, Memory>
+    ensures { IfOk result (λ v. v.items
+        ≡ condition_reasons (program_of program.now.parts) place steps.now) }
+{
+    let mut reasons = Vec::new(alloc);
+    if begins_by_condition(steps) {
+        if let Some(part) = condition_part(alloc, program, place) {
+            reasons.push(RefusalReason {
+                place: part.place,
+                kind: ReasonKind::Plain(part.cause),
+            })?;
+        }
+    }
+    Ok(reasons)
+}
+
+/// The reasons for a collective that no annotations align, from a chain of constraints that leads to it: the links, and before them the part
+/// of a condition that no annotation makes single, if the chain has one link, by a condition. Errors only if it runs out of memory.
+pub(crate) fn chain_reasons(
+    alloc: Global,
+    program: &Program,
+    place: Place,
+    steps: &[ChainStep],
+) -> Result<Vec<RefusalReason>, Memory>
+    ensures { IfOk result (λ v. v.items
+        ≡ chain_reasons (program_of program.now.parts) place steps.now) }
+{
+    let reasons = condition_reasons(alloc, program, place, steps)?;
+    push_links(reasons, program, steps)
 }

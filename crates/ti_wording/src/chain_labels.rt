@@ -84,9 +84,9 @@ fn link_of(reason: &ReasonSpan) -> Option<ChainLink> {
     }
 }
 
-/// Whether the reasons are the links of a chain.
+/// Whether the reasons are a chain: the last one is a link.
 pub fn is_chain(reasons: &[ReasonSpan]) -> bool {
-    match reasons.first() {
+    match reasons.last() {
         Some(reason) => link_of(reason).is_some(),
         None => false,
     }
@@ -110,11 +110,11 @@ fn push_cause(
     Ok(())
 }
 
-// The link before this index.
+// The link before this index, if there is one: a part of a condition is none.
 fn before_link(reasons: &[ReasonSpan], index: usize) -> Option<&ReasonSpan> {
-    match index.checked_sub(1) {
-        Some(before) => reasons.get(before),
-        None => None,
+    match reasons.get(index.checked_sub(1)?) {
+        Some(reason) if link_of(reason).is_some() => Some(reason),
+        _ => None,
     }
 }
 

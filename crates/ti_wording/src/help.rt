@@ -12,9 +12,18 @@ use ti_base::Place;
 use ti_explain::{ChainLink, Explanation, PlainCause, ReasonKind, ReasonSpan};
 use ti_rules::{Refusal, Rule};
 
+// The help for a part of a condition around a collective that no annotations align.
+fn condition_help(cause: PlainCause) -> &'static str {
+    match cause {
+        PlainCause::ThisProc => OF_THIS_PROC,
+        _ => rule_help(Rule::B1),
+    }
+}
+
 // The help for a plain part.
 fn cause_help(rule: Rule, cause: PlainCause) -> &'static str {
     match cause {
+        cause if rule == Rule::B1 => condition_help(cause),
         PlainCause::Variable => {
             "declare the variable `single` if what it gets is the same in all processes; \
              a broadcast makes it so"

@@ -57,6 +57,26 @@ fn is_marked(reason: &ReasonSpan, next: Option<&ReasonSpan>) -> bool {
     }
 }
 
+// The mark of a reason of a chain: a link, or a part of a condition.
+fn link_mark(
+    alloc: Global,
+    text: &[u8],
+    reasons: &[ReasonSpan],
+    index: usize,
+    reason: &ReasonSpan,
+) -> Result<Underline, NoMemory> {
+    let label = link_label(alloc, text, reasons, index)?;
+    if label.is_empty() {
+        return reason_mark(alloc, text, reason);
+    }
+    Ok(Underline {
+        place: reason.place,
+        len: reason.len,
+        drawn: '-',
+        label,
+    })
+}
+
 // Whether a link of a chain with so many links before its collective has a mark: of a long chain, the first two and the last three.
 fn is_shown(index: usize, count: usize) -> bool {
     count < MOST_MARKS || index < 2 || index.saturating_add(3) >= count
@@ -72,12 +92,7 @@ fn chain_marks(
     let count = explanation.reasons.len().saturating_sub(1);
     for (i, reason) in explanation.reasons.iter().take(count).enumerate() {
         if is_shown(i, count) {
-            marks.push(Underline {
-                place: reason.place,
-                len: reason.len,
-                drawn: '-',
-                label: link_label(alloc, text, &explanation.reasons, i)?,
-            })?;
+            marks.push(link_mark(alloc, text, &explanation.reasons, i, reason)?)?;
         }
     }
     marks.push(error_mark(alloc, text, explanation)?)?;

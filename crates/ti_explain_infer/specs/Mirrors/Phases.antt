@@ -15,7 +15,7 @@ use Rattle.ti_infer.specs.OfTexts.{IsUnmarkedRefusal}
 use Rattle.ti_infer.specs.Unaligned.{IsProgramChain}
 use Rattle.ti_explain.specs.declared.reason.Explanation.{Explanation}
 use Rattle.ti_explain.specs.ReasonSpans.{without_len, HasLengths}
-use Rattle.ti_explain_infer.specs.ChainLinks.{chain_links}
+use Rattle.ti_explain_infer.specs.ChainReasons.{chain_reasons}
 use Rattle.ti_explain_infer.specs.InferenceReasons.{IsResolved, AreInferenceReasons}
 
 -- the text is refused alike, whatever marks it has
@@ -46,7 +46,7 @@ pub record IsChainExplained (text : List ℕ) (p : ProgramView) (e : Explanation
   pub first : IsFirstUnaligned p e.refusal.place
   pub steps : List ChainStep
   pub chain : IsProgramChain p e.refusal.place steps
-  pub reasons : map without_len e.reasons.items ≡ chain_links p steps
+  pub reasons : map without_len e.reasons.items ≡ chain_reasons p e.refusal.place steps
   pub lengths : HasLengths text e
 
 -- why no annotations align a program, or none if it has a greatest marking

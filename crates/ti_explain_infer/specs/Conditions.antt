@@ -1,0 +1,101 @@
+-- The conditions around a collective, and what in them no annotation makes single.
+use Rattle.std.specs.Prelude.{ℕ, Bool, true, false, if◌then◌else◌, List, [], ◌∷◌, Option, Some, None}
+use Rattle.std.specs.Option.{option_map, option_or, unwrap_or}
+use Rattle.ti_base.specs.declared.place.Place.{Place}
+use Rattle.ti_base.specs.Places.{same_place}
+use Rattle.ti_lang.specs.Program.Expressions.{NumberedExp, place_of_numbered}
+use Rattle.ti_lang.specs.Program.Expressions as x
+use Rattle.ti_lang.specs.Program.Statements.{NumberedInit, NumberedStm, MaybeNumbered, NumberedStms, numbered_stms}
+use Rattle.ti_lang.specs.Program.Statements as st
+use Rattle.ti_lang.specs.Program.Classes.{NumberedMethod, ProgramView}
+use Rattle.ti_lang.specs.Program.Scope.{ScopeContents, this_of}
+use Rattle.ti_rules.specs.StmtInContext.{singles_in}
+use Rattle.ti_explain.specs.declared.reason.PlainCause.{PlainCause}
+use Rattle.ti_explain.specs.declared.reason.PlainCause.TheVariants as cause
+use Rattle.ti_explain.specs.declared.reason.PlainPart.{PlainPart}
+use Rattle.ti_explain.specs.PlainParts.{plain_part}
+
+-- ---- operands
+
+abbrev pub is_variable : PlainCause → Bool
+is_variable cause.Variable = true
+is_variable cause.ForeachVariable = true
+is_variable why = false
+
+-- a plain part other than a variable, which an annotation may make single
+abbrev pub unless_variable : Option PlainPart → Option PlainPart
+unless_variable None = None
+unless_variable (Some part) = if is_variable part.cause then None else Some part
+
+-- ---- collectives
+
+-- here, without a condition around it
+abbrev pub here : Bool → Option (Option PlainPart)
+here is = if is then Some None else None
+
+-- whether a right-hand side is a collective at this position
+abbrev pub is_initial_at : Place → NumberedInit → Bool
+is_initial_at at (st.Value e) = same_place at (place_of_numbered e)
+is_initial_at at (st.NewRegion place) = same_place at place
+is_initial_at at (st.Broadcast place e root) = same_place at place
+is_initial_at at value = false
+
+module _ (p : ProgramView) (this : Option ℕ) (singles : ℕ → Bool) where
+  -- in the operands of operators, the first plain part that no annotation makes single
+  abbrev pub fixed_part : NumberedExp → Option PlainPart
+  fixed_part (x.Unary at op a) = fixed_part a
+  fixed_part (x.Binary at op a b) = option_or (fixed_part a) (fixed_part b)
+  fixed_part e = unless_variable (plain_part p this singles e)
+
+  -- ---- statements
+
+  -- within a condition: its own part comes first
+  abbrev pub under : NumberedExp → Option (Option PlainPart) → Option (Option PlainPart)
+  under c None = None
+  under c (Some part) = Some (option_or (fixed_part c) part)
+
+  abbrev pub under_maybe : Option NumberedExp → Option (Option PlainPart) → Option (Option PlainPart)
+  under_maybe None found = found
+  under_maybe (Some c) found = under c found
+
+  abbrev mutual
+    -- if the collective at this position is in the statement, the first part that no annotation makes single of the conditions around it
+    pub part_around : Place → NumberedStm → Option (Option PlainPart)
+    part_around at (st.Declare place type variable value) = here (is_initial_at at value)
+    part_around at (st.Assign place target value) = here (is_initial_at at value)
+    part_around at (st.Update place op target e) = here (same_place at (place_of_numbered e))
+    part_around at (st.Call e) = here (same_place at (place_of_numbered e))
+    part_around at (st.Barrier place) = here (same_place at place)
+    part_around at (st.Block body) = part_around_all at body
+    part_around at (st.If place c a) = under c (part_around at a)
+    part_around at (st.IfElse place c a b) = under c (option_or (part_around at a) (part_around at b))
+    part_around at (st.While place c body) = under c (part_around at body)
+    part_around at (st.For place first c update body) =
+        option_or (part_around_maybe at first) (under_maybe c (option_or (part_around at body) (part_around_maybe at update)))
+    part_around at (st.Foreach place variable domain body) = under domain (part_around at body)
+    part_around at s = None
+
+    pub part_around_maybe : Place → MaybeNumbered → Option (Option PlainPart)
+    part_around_maybe at st.NoStm = None
+    part_around_maybe at (st.SomeStm s) = part_around at s
+
+    pub part_around_all : Place → NumberedStms → Option (Option PlainPart)
+    part_around_all at st.Nil = None
+    part_around_all at (st.Cons s rest) = option_or (part_around at s) (part_around_all at rest)
+
+-- ---- programs
+
+-- the scope of a method without variables
+abbrev pub bare_scope : NumberedMethod → ScopeContents
+bare_scope m = record { this_class = this_of m; variables = [] }
+
+abbrev pub part_in_method : ProgramView → Place → NumberedMethod → Option (Option PlainPart)
+part_in_method p at m = part_around_all p (this_of m) (singles_in (bare_scope m)) at (numbered_stms m.body)
+
+abbrev pub part_in_methods : ProgramView → Place → List NumberedMethod → Option (Option PlainPart)
+part_in_methods p at [] = None
+part_in_methods p at (m ∷ ms) = option_or (part_in_method p at m) (part_in_methods p at ms)
+
+-- the first part that no annotation makes single of the conditions around the collective at this position
+abbrev pub condition_part : ProgramView → Place → Option PlainPart
+condition_part p at = unwrap_or (part_in_methods p at p.methods) None
