@@ -148,7 +148,8 @@ pub struct RefusalReason {
 
 /// A refusal with its reasons in a fixed order: for an unexpected token that of the texts that are tried, and then the end of the
 /// source; for a rule of single values the plain part, if there is one, with the declaration of its variable, and then the
-/// effect; for a collective that no annotations align the links of a chain, up to the collective.
+/// effect; for a collective that no annotations align the links of a chain, up to the collective, and before a single link by a
+/// condition the plain part of that, if there is one.
 #[derive(Drop)]
 pub struct RefusalReasons {
     pub refusal: Refusal,
