@@ -13,9 +13,9 @@ use Rattle.ti_explain.specs.SingleReasons.{plain_reason}
 use Rattle.ti_explain_infer.specs.ChainLinks.{cause_of, chain_links}
 use Rattle.ti_explain_infer.specs.Conditions.{condition_part}
 
-abbrev pub is_collective : Reason → Bool
-is_collective (OfCollective at) = true
-is_collective reason = false
+abbrev pub is_of_collective : Reason → Bool
+is_of_collective (OfCollective at) = true
+is_of_collective reason = false
 
 abbrev pub is_condition : LinkCause → Bool
 is_condition cause.Condition = true
@@ -24,7 +24,7 @@ is_condition why = false
 -- whether the chain begins at a collective, which a condition rules out by itself
 abbrev pub begins_by_condition : List ChainStep → Bool
 begins_by_condition [] = false
-begins_by_condition (s ∷ rest) = is_collective s.ruled_out && is_condition (cause_of s.implication)
+begins_by_condition (s ∷ rest) = is_of_collective s.ruled_out && is_condition (cause_of s.implication)
 
 -- the reason for the condition, if there is a part of one that no annotation makes single
 abbrev pub condition_reasons : ProgramView → Place → List ChainStep → List RefusalReason

@@ -17,15 +17,15 @@ use Rattle.ti_explain.specs.PlainParts.{plain_part}
 
 -- ---- operands
 
-abbrev pub is_variable : PlainCause → Bool
-is_variable cause.Variable = true
-is_variable cause.ForeachVariable = true
-is_variable why = false
+abbrev pub is_variable_cause : PlainCause → Bool
+is_variable_cause cause.Variable = true
+is_variable_cause cause.ForeachVariable = true
+is_variable_cause why = false
 
 -- a plain part other than a variable, which an annotation may make single
 abbrev pub unless_variable : Option PlainPart → Option PlainPart
 unless_variable None = None
-unless_variable (Some part) = if is_variable part.cause then None else Some part
+unless_variable (Some part) = if is_variable_cause part.cause then None else Some part
 
 -- ---- collectives
 
@@ -50,13 +50,13 @@ module _ (p : ProgramView) (this : Option ℕ) (singles : ℕ → Bool) where
   -- ---- statements
 
   -- within a condition: its own part comes first
-  abbrev pub under : NumberedExp → Option (Option PlainPart) → Option (Option PlainPart)
-  under c None = None
-  under c (Some part) = Some (option_or (fixed_part c) part)
+  abbrev pub within_condition : NumberedExp → Option (Option PlainPart) → Option (Option PlainPart)
+  within_condition c None = None
+  within_condition c (Some part) = Some (option_or (fixed_part c) part)
 
-  abbrev pub under_maybe : Option NumberedExp → Option (Option PlainPart) → Option (Option PlainPart)
-  under_maybe None found = found
-  under_maybe (Some c) found = under c found
+  abbrev pub within_maybe : Option NumberedExp → Option (Option PlainPart) → Option (Option PlainPart)
+  within_maybe None found = found
+  within_maybe (Some c) found = within_condition c found
 
   abbrev mutual
     -- if the collective at this position is in the statement, the first part that no annotation makes single of the conditions around it
@@ -67,12 +67,12 @@ module _ (p : ProgramView) (this : Option ℕ) (singles : ℕ → Bool) where
     part_around at (st.Call e) = here (same_place at (place_of_numbered e))
     part_around at (st.Barrier place) = here (same_place at place)
     part_around at (st.Block body) = part_around_all at body
-    part_around at (st.If place c a) = under c (part_around at a)
-    part_around at (st.IfElse place c a b) = under c (option_or (part_around at a) (part_around at b))
-    part_around at (st.While place c body) = under c (part_around at body)
+    part_around at (st.If place c a) = within_condition c (part_around at a)
+    part_around at (st.IfElse place c a b) = within_condition c (option_or (part_around at a) (part_around at b))
+    part_around at (st.While place c body) = within_condition c (part_around at body)
     part_around at (st.For place first c update body) =
-        option_or (part_around_maybe at first) (under_maybe c (option_or (part_around at body) (part_around_maybe at update)))
-    part_around at (st.Foreach place variable domain body) = under domain (part_around at body)
+        option_or (part_around_maybe at first) (within_maybe c (option_or (part_around at body) (part_around_maybe at update)))
+    part_around at (st.Foreach place variable domain body) = within_condition domain (part_around at body)
     part_around at s = None
 
     pub part_around_maybe : Place → MaybeNumbered → Option (Option PlainPart)

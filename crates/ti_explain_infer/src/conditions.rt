@@ -8,7 +8,7 @@ ghost use Rattle.ti_lang.specs.Program.Statements.{numbered_stms};
 ghost use Rattle.ti_lang.specs.Program.Views.{program_of, expression_of, initial_of, statement_of, numbered_method_of};
 ghost use Rattle.ti_rules.specs.StmtInContext.{singles_in};
 ghost use Rattle.ti_single.specs.Mirrors.Maybe.{maybe_in};
-ghost use Rattle.ti_explain_infer.specs.Conditions.{bare_scope, condition_part, fixed_part, here, is_initial_at, is_variable, part_around, part_around_all, part_around_maybe, part_in_method, part_in_methods, under, under_maybe, unless_variable};
+ghost use Rattle.ti_explain_infer.specs.Conditions.{bare_scope, condition_part, fixed_part, here, is_initial_at, is_variable_cause, part_around, part_around_all, part_around_maybe, part_in_method, part_in_methods, within_condition, within_maybe, unless_variable};
 
 use std::alloc::Global;
 use ti_base::Place;
@@ -18,8 +18,8 @@ use ti_single::{deref_expr, deref_init, deref_stmt, deref_stmts, this_of};
 
 // ---- operands
 
-fn is_variable(cause: PlainCause) -> bool
-    ensures { result ≡ is_variable cause }
+fn is_variable_cause(cause: PlainCause) -> bool
+    ensures { result ≡ is_variable_cause cause }
 {
     matches!(cause, PlainCause::Variable | PlainCause::ForeachVariable)
 }
@@ -30,7 +30,7 @@ fn unless_variable(part: Option<PlainPart>) -> Option<PlainPart>
 {
     match part {
         Some(part) => {
-            if is_variable(part.cause) {
+            if is_variable_cause(part.cause) {
                 None
             } else {
                 Some(part)
@@ -59,13 +59,13 @@ fn fixed_part(program: &Program, scope: &Scope, expr: &Expr) -> Option<PlainPart
 // ---- statements
 
 // What is found within this condition, whose own part comes first.
-fn under(
+fn within_condition(
     program: &Program,
     scope: &Scope,
     condition: &Expr,
     found: Option<Option<PlainPart>>,
 ) -> Option<Option<PlainPart>>
-    ensures { result ≡ under (program_of program.now.parts) scope.now.this (singles_in (contents_of scope.now))
+    ensures { result ≡ within_condition (program_of program.now.parts) scope.now.this (singles_in (contents_of scope.now))
         (expression_of condition.now) found }
 {
     match found {
@@ -75,17 +75,17 @@ fn under(
 }
 
 // What is found within a condition that may be missing.
-fn under_maybe(
+fn within_maybe(
     program: &Program,
     scope: &Scope,
     condition: &Option<Expr>,
     found: Option<Option<PlainPart>>,
 ) -> Option<Option<PlainPart>>
-    ensures { result ≡ under_maybe (program_of program.now.parts) scope.now.this (singles_in (contents_of scope.now))
+    ensures { result ≡ within_maybe (program_of program.now.parts) scope.now.this (singles_in (contents_of scope.now))
         (maybe_of expression_of condition.now) found }
 {
     match condition {
-        Some(condition) => under(program, scope, condition, found),
+        Some(condition) => within_condition(program, scope, condition, found),
         None => found,
     }
 }
@@ -174,9 +174,9 @@ fn part_around(
             match otherwise {
                 Some(otherwise) => {
                     let found = found.or(part_around(program, scope, place, deref_stmt(otherwise)));
-                    under(program, scope, condition, found)
+                    within_condition(program, scope, condition, found)
                 }
-                None => under(program, scope, condition, found),
+                None => within_condition(program, scope, condition, found),
             }
         }
         Stmt::While {
@@ -185,7 +185,7 @@ fn part_around(
             ..
         } => {
             let found = part_around(program, scope, place, deref_stmt(body));
-            under(program, scope, condition, found)
+            within_condition(program, scope, condition, found)
         }
         Stmt::For {
             first,
@@ -197,11 +197,11 @@ fn part_around(
             let first = part_around_maybe(program, scope, place, first);
             let body = part_around(program, scope, place, deref_stmt(body));
             let found = body.or(part_around_maybe(program, scope, place, update));
-            first.or(under_maybe(program, scope, condition, found))
+            first.or(within_maybe(program, scope, condition, found))
         }
         Stmt::Foreach { domain, body, .. } => {
             let found = part_around(program, scope, place, deref_stmt(body));
-            under(program, scope, domain, found)
+            within_condition(program, scope, domain, found)
         }
         Stmt::Empty
         | Stmt::Step { .. }

@@ -1,7 +1,7 @@
 // A chain of constraints, as reasons.
 ghost use Rattle.std.specs.Prelude.{◌≡◌, ◌++◌, map, IfOk};
 ghost use Rattle.ti_lang.specs.Program.Views.{program_of, numbered_param_of, numbered_params_of, numbered_method_of};
-ghost use Rattle.ti_explain_infer.specs.ChainReasons.{is_collective, is_condition, begins_by_condition, condition_reasons, chain_reasons};
+ghost use Rattle.ti_explain_infer.specs.ChainReasons.{is_of_collective, is_condition, begins_by_condition, condition_reasons, chain_reasons};
 ghost use Rattle.ti_explain_infer.specs.ChainLinks.{declares_at, method_declares_at, is_among, cause_by, cause_of, variable_part, link_at, step_links, chain_links};
 
 use crate::conditions::condition_part;
@@ -128,8 +128,8 @@ fn push_links(
 
 // ---- the condition before the links
 
-fn is_collective(reason: Reason) -> bool
-    ensures { result ≡ is_collective reason }
+fn is_of_collective(reason: Reason) -> bool
+    ensures { result ≡ is_of_collective reason }
 {
     matches!(reason, Reason::OfCollective(_))
 }
@@ -145,7 +145,7 @@ fn begins_by_condition(steps: &[ChainStep]) -> bool
     ensures { result ≡ begins_by_condition steps.now }
 {
     match steps.first() {
-        Some(step) => is_collective(step.ruled_out) && is_condition(cause_of(step.implication)),
+        Some(step) => is_of_collective(step.ruled_out) && is_condition(cause_of(step.implication)),
         None => false,
     }
 }

@@ -7,7 +7,7 @@ use Rattle.ti_lang.specs.Program.Views.{program_of, expression_of, statement_of,
 use Rattle.ti_rules.specs.StmtInContext.{singles_in}
 use Rattle.ti_single.specs.Mirrors.Maybe.{maybe_in}
 use Rattle.ti_explain.specs.declared.reason.PlainPart.{PlainPart}
-use Rattle.ti_explain_infer.specs.Conditions.{part_around, part_around_maybe, under_maybe}
+use Rattle.ti_explain_infer.specs.Conditions.{part_around, part_around_maybe, within_maybe}
 use Rattle.ti_explain_infer.proofs.ConditionLaws.{same_maybe}
 use Rattle.ti_explain_infer.proofs.conditions.+around.Goals as goal
 
@@ -17,13 +17,13 @@ part_around-returns-in-For t c =
     let this = c.args.scope.now.this in
     let singles = singles_in (contents_of c.args.scope.now) in
     let at = c.args.place in
-    let within = λ (found : Option (Option PlainPart)). under_maybe p this singles (maybe_of expression_of c.in-For.condition)
+    let within = λ (found : Option (Option PlainPart)). within_maybe p this singles (maybe_of expression_of c.in-For.condition)
     (option_or (part_around p this singles at (statement_of c.in-For.body.value)) found) in
     c.or.ensures
-    ∙ ap (λ z. option_or z c.under_maybe.result) c.part_around_maybe-first.ensures
+    ∙ ap (λ z. option_or z c.within_maybe.result) c.part_around_maybe-first.ensures
     ∙ ap (option_or (part_around_maybe p this singles at (maybe_in c.in-For.first)))
-    (c.under_maybe.ensures
-    ∙ ap (under_maybe p this singles (maybe_of expression_of c.in-For.condition))
+    (c.within_maybe.ensures
+    ∙ ap (within_maybe p this singles (maybe_of expression_of c.in-For.condition))
     (c.or-found-in-For.ensures
     ∙ ap (λ z. option_or z c.part_around_maybe.result)
     (c.part_around-body.ensures ∙ ap (λ (s : Stmt). part_around p this singles at (statement_of s)) c.deref_stmt-in-For.ensures)
