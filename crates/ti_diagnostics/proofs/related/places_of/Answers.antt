@@ -1,4 +1,4 @@
-use Rattle.std.proofs.Common.{ℕ, Option, Ok, IfSome, ap, subst, rules, arith}
+use Rattle.std.proofs.Common.{ℕ, Option, Ok, IfSome, Vec, Global, length, ap, sym, ◌∙◌, subst, rules, arith}
 use Rattle.ti_lsp.specs.declared.diagnostic.Related.{Related}
 use Rattle.ti_diagnostics.specs.Rejections.{IsRelatedTo, IsUnrelated}
 use Rattle.ti_diagnostics.proofs.RelatedPlaces.{one_related, one_unrelated}
@@ -16,5 +16,7 @@ loop-reason-preserved c =
           (subst (λ (o : Option Related). IfSome o (IsRelatedTo text reason)) w.in-Some.is c.in_ok-place.ensures.some) (search rules)
       | in_default w ↦ one_unrelated text refusal c.args.reasons.now c.loop-reason.reason-index reason c.match-branch-2.places.items
           (omega arith) c.reason-item.is (search rules)
-          (search rules)
+          (subst (λ (n : ℕ). IsUnrelated text refusal n reason)
+          ((omega (arith, c.len.ensures, c.loop-reason.places.ok)) ∙ ap (λ (places : Vec Related Global). length places.items) (sym w.places-is))
+          (c.place_of_reason.ensures.none (c.in_ok-place.was ∙ ap Ok w.in_default.is)))
     ]
