@@ -1,3 +1,3 @@
-pub mod ConditionLaws
+pub mod FixedPartLaws
 pub mod Inferring
 pub mod Reading

@@ -1,5 +1,5 @@
 pub mod ChainLinks
 pub mod ChainReasons
-pub mod Conditions
+pub mod FixedParts
 pub mod InferenceReasons
 pub mod Mirrors

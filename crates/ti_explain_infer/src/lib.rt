@@ -1,8 +1,8 @@
 //! Explanations of mode infer: why no `single` annotations let a source be accepted, as positions in it with what is there.
 #![tactic(auto)]
 
-mod conditions;
 mod early;
+mod fixed_parts;
 mod inference;
 mod links;
 

@@ -1,14 +1,15 @@
 // A chain of constraints, as reasons.
 ghost use Rattle.std.specs.Prelude.{◌≡◌, ◌++◌, map, IfOk};
 ghost use Rattle.ti_lang.specs.Program.Views.{program_of, numbered_param_of, numbered_params_of, numbered_method_of};
-ghost use Rattle.ti_explain_infer.specs.ChainReasons.{is_of_collective, is_condition, begins_by_condition, condition_reasons, chain_reasons};
+ghost use Rattle.ti_explain_infer.specs.ChainReasons.{is_of_collective, part_by, first_part, chain_reasons};
+ghost use Rattle.ti_explain.specs.SingleReasons.{plain_reason};
 ghost use Rattle.ti_explain_infer.specs.ChainLinks.{declares_at, method_declares_at, is_among, cause_by, cause_of, variable_part, link_at, step_links, chain_links};
 
-use crate::conditions::condition_part;
+use crate::fixed_parts::collective_part;
 use std::alloc::Global;
 use ti_base::{Memory, Place};
 use ti_blame::{ChainStep, Conclusion, Implication, MarkKind, Reason};
-use ti_explain::{ChainLink, LinkCause, LinkPart, ReasonKind, RefusalReason};
+use ti_explain::{ChainLink, LinkCause, LinkPart, PlainPart, ReasonKind, RefusalReason};
 use ti_lang::program::{Method, Param, Params, Program};
 
 fn is_among(place: Place, params: &[Param]) -> bool
@@ -126,7 +127,7 @@ fn push_links(
     Ok(links)
 }
 
-// ---- the condition before the links
+// ---- what is before the links
 
 fn is_of_collective(reason: Reason) -> bool
     ensures { result ≡ is_of_collective reason }
@@ -134,45 +135,53 @@ fn is_of_collective(reason: Reason) -> bool
     matches!(reason, Reason::OfCollective(_))
 }
 
-fn is_condition(cause: LinkCause) -> bool
-    ensures { result ≡ is_condition cause }
+// What no annotation makes single of the collective at a position, for a link by this kind of constraint.
+fn part_by(alloc: Global, program: &Program, place: Place, cause: LinkCause) -> Option<PlainPart>
+    ensures { result ≡ part_by (program_of program.now.parts) place cause }
 {
-    matches!(cause, LinkCause::Condition)
-}
-
-// Whether the chain begins at a collective, which a condition rules out by itself.
-fn begins_by_condition(steps: &[ChainStep]) -> bool
-    ensures { result ≡ begins_by_condition steps.now }
-{
-    match steps.first() {
-        Some(step) => is_of_collective(step.ruled_out) && is_condition(cause_of(step.implication)),
-        None => false,
+    match cause {
+        LinkCause::Condition => collective_part(alloc, program, true, place),
+        LinkCause::Value => collective_part(alloc, program, false, place),
+        LinkCause::Method => None,
     }
 }
 
-fn condition_reasons(
+// That of a chain that begins at the collective.
+fn first_part(
     alloc: Global,
     program: &Program,
     place: Place,
     steps: &[ChainStep],
-) -> Result<Vec<RefusalReason>, Memory>
-    ensures { IfOk result (λ v. v.items
-        ≡ condition_reasons (program_of program.now.parts) place steps.now) }
+) -> Option<PlainPart>
+    ensures { result ≡ first_part (program_of program.now.parts) place steps.now }
+{
+    match steps.first() {
+        Some(step) => {
+            if is_of_collective(step.ruled_out) {
+                part_by(alloc, program, place, cause_of(step.implication))
+            } else {
+                None
+            }
+        }
+        None => None,
+    }
+}
+
+fn part_reasons(alloc: Global, part: Option<PlainPart>) -> Result<Vec<RefusalReason>, Memory>
+    ensures { IfOk result (λ v. v.items ≡ plain_reason part) }
 {
     let mut reasons = Vec::new(alloc);
-    if begins_by_condition(steps) {
-        if let Some(part) = condition_part(alloc, program, place) {
-            reasons.push(RefusalReason {
-                place: part.place,
-                kind: ReasonKind::Plain(part.cause),
-            })?;
-        }
+    if let Some(part) = part {
+        reasons.push(RefusalReason {
+            place: part.place,
+            kind: ReasonKind::Plain(part.cause),
+        })?;
     }
     Ok(reasons)
 }
 
-/// The reasons for a collective that no annotations align, from a chain of constraints that leads to it: the links, and before them the part
-/// of a condition that no annotation makes single, if the chain has one link, by a condition. Errors only if it runs out of memory.
+/// The reasons for a collective that no annotations align, from a chain of constraints that leads to it: the links, and before a single link
+/// the part of a condition, or of the root or region, that no annotation makes single. Errors only if it runs out of memory.
 pub(crate) fn chain_reasons(
     alloc: Global,
     program: &Program,
@@ -182,6 +191,6 @@ pub(crate) fn chain_reasons(
     ensures { IfOk result (λ v. v.items
         ≡ chain_reasons (program_of program.now.parts) place steps.now) }
 {
-    let reasons = condition_reasons(alloc, program, place, steps)?;
+    let reasons = part_reasons(alloc, first_part(alloc, program, place, steps))?;
     push_links(reasons, program, steps)
 }

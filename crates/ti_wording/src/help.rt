@@ -12,18 +12,9 @@ use ti_base::Place;
 use ti_explain::{ChainLink, Explanation, PlainCause, ReasonKind, ReasonSpan};
 use ti_rules::{Refusal, Rule};
 
-// The help for a part of a condition around a collective that no annotations align.
-fn condition_help(cause: PlainCause) -> &'static str {
-    match cause {
-        PlainCause::ThisProc => OF_THIS_PROC,
-        _ => rule_help(Rule::B1),
-    }
-}
-
 // The help for a plain part.
 fn cause_help(rule: Rule, cause: PlainCause) -> &'static str {
     match cause {
-        cause if rule == Rule::B1 => condition_help(cause),
         PlainCause::Variable => {
             "declare the variable `single` if what it gets is the same in all processes; \
              a broadcast makes it so"
@@ -183,6 +174,20 @@ fn link_help(text: &[u8], first: &ReasonSpan, link: ChainLink) -> &'static str {
     unless_empty(chain_help(link), Rule::B1)
 }
 
+// The help for a collective that no annotations align, by the part before the only link of its chain.
+fn part_help(reasons: &[ReasonSpan], cause: PlainCause) -> &'static str {
+    if cause == PlainCause::ThisProc {
+        return OF_THIS_PROC;
+    }
+    match reasons.last() {
+        Some(reason) => match &reason.kind {
+            ReasonKind::Link(link) => unless_empty(chain_help(*link), Rule::B1),
+            _ => rule_help(Rule::B1),
+        },
+        None => rule_help(Rule::B1),
+    }
+}
+
 // The help for an error whose reasons don't say how it is fixed by themselves: by all of them, by its token, or by its rule.
 fn refusal_help(text: &[u8], explanation: &Explanation) -> &'static str {
     let Refusal { rule, place } = explanation.refusal;
@@ -202,6 +207,9 @@ pub fn help_of(alloc: Global, text: &[u8], explanation: &Explanation) -> Result<
     match telling_reason(&explanation.reasons) {
         Some(reason) => match &reason.kind {
             ReasonKind::PlainDeclaration => push_declaration_help(alloc, &mut help, text, reason)?,
+            ReasonKind::Plain(cause) if refusal.rule == Rule::B1 => {
+                help.push_str(part_help(&explanation.reasons, *cause))?
+            }
             ReasonKind::Plain(cause) => help.push_str(cause_help(refusal.rule, *cause))?,
             ReasonKind::Name(reason) => {
                 help.push_str(unless_empty(name_help(reason), refusal.rule))?
