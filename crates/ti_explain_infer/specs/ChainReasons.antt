@@ -26,10 +26,10 @@ part_by p at cause.Value = collective_part p false at
 part_by p at cause.Method = None
 
 -- that of a chain that begins at the collective, which is then its only link
-abbrev pub first_part : ProgramView → Place → List ChainStep → Option PlainPart
-first_part p at [] = None
-first_part p at (s ∷ rest) = if is_of_collective s.ruled_out then part_by p at (cause_of s.implication) else None
+abbrev pub leading_part : ProgramView → Place → List ChainStep → Option PlainPart
+leading_part p at [] = None
+leading_part p at (s ∷ rest) = if is_of_collective s.ruled_out then part_by p at (cause_of s.implication) else None
 
 -- the reasons for the collective at this position: from what can't be single to the collective
 abbrev pub chain_reasons : ProgramView → Place → List ChainStep → List RefusalReason
-chain_reasons p at steps = plain_reason (first_part p at steps) ++ chain_links p steps
+chain_reasons p at steps = plain_reason (leading_part p at steps) ++ chain_links p steps

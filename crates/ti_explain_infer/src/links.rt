@@ -1,7 +1,7 @@
 // A chain of constraints, as reasons.
 ghost use Rattle.std.specs.Prelude.{◌≡◌, ◌++◌, map, IfOk};
 ghost use Rattle.ti_lang.specs.Program.Views.{program_of, numbered_param_of, numbered_params_of, numbered_method_of};
-ghost use Rattle.ti_explain_infer.specs.ChainReasons.{is_of_collective, part_by, first_part, chain_reasons};
+ghost use Rattle.ti_explain_infer.specs.ChainReasons.{is_of_collective, part_by, leading_part, chain_reasons};
 ghost use Rattle.ti_explain.specs.SingleReasons.{plain_reason};
 ghost use Rattle.ti_explain_infer.specs.ChainLinks.{declares_at, method_declares_at, is_among, cause_by, cause_of, variable_part, link_at, step_links, chain_links};
 
@@ -147,13 +147,13 @@ fn part_by(alloc: Global, program: &Program, place: Place, cause: LinkCause) -> 
 }
 
 // That of a chain that begins at the collective.
-fn first_part(
+fn leading_part(
     alloc: Global,
     program: &Program,
     place: Place,
     steps: &[ChainStep],
 ) -> Option<PlainPart>
-    ensures { result ≡ first_part (program_of program.now.parts) place steps.now }
+    ensures { result ≡ leading_part (program_of program.now.parts) place steps.now }
 {
     match steps.first() {
         Some(step) => {
@@ -191,6 +191,6 @@ pub(crate) fn chain_reasons(
     ensures { IfOk result (λ v. v.items
         ≡ chain_reasons (program_of program.now.parts) place steps.now) }
 {
-    let reasons = part_reasons(alloc, first_part(alloc, program, place, steps))?;
+    let reasons = part_reasons(alloc, leading_part(alloc, program, place, steps))?;
     push_links(reasons, program, steps)
 }
