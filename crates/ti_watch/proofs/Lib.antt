@@ -1,3 +1,4 @@
 pub mod Fronts
 pub mod LinesMore
 pub mod Listed
+pub mod KindCounts

@@ -1,4 +1,5 @@
 pub mod Acts
 pub mod Lines
+pub mod Mirrors
 pub mod Reports
 pub mod Texts

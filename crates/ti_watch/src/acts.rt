@@ -3,6 +3,7 @@ ghost use Rattle.std.specs.Prelude.{◌≡◌, ◌+◌, ◌≤◌, ◌++◌, len
 ghost use Rattle.ti_base.specs.FaultNames.{name_of};
 ghost use Rattle.ti_watch.specs.Lines.{line_room};
 ghost use Rattle.ti_watch.specs.Acts as spec;
+ghost use Rattle.ti_watch.specs.Mirrors.{kind_of_action, kind_word};
 ghost use Rattle.ti_watch.specs.Texts as text;
 
 use crate::line::Line;
@@ -10,26 +11,69 @@ use ti_base::{
     Action, Answer, CollKind, Deposit, FaultKind, Id, Point, Rect, Value, ViewHow, Zero, fault_name,
 };
 
-/// The name of an operation, of at most 8 bytes.
-pub fn act_word(act: Action) -> &'static str
-    ensures word { result.now ≡ spec.action_word act }
-    ensures short { length result.now ≤ 8 }
+/// The operation of an action, without its operands.
+#[derive(Clone, Copy)]
+pub enum ActKind {
+    GetField,
+    PutField,
+    NewObj,
+    NewGrid,
+    GetElem,
+    PutElem,
+    MakeView,
+    DomainOf,
+    Print,
+    Arrive,
+    Depart,
+    Take,
+    End,
+    Fault,
+}
+
+/// The operation of an action.
+pub fn act_kind(act: Action) -> ActKind
+    ensures { result ≡ kind_of_action act }
 {
     match act {
-        Action::GetField { .. } => "getField",
-        Action::PutField { .. } => "putField",
-        Action::NewObj { .. } => "newObj",
-        Action::NewGrid { .. } => "newGrid",
-        Action::GetElem { .. } => "getElem",
-        Action::PutElem { .. } => "putElem",
-        Action::MakeView { .. } => "makeView",
-        Action::DomainOf { .. } => "domainOf",
-        Action::Print { .. } => "print",
-        Action::Arrive { .. } => "arrive",
-        Action::Depart => "depart",
-        Action::Take { .. } => "take",
-        Action::End => "end",
-        Action::Fault { .. } => "fault",
+        Action::GetField { .. } => ActKind::GetField,
+        Action::PutField { .. } => ActKind::PutField,
+        Action::NewObj { .. } => ActKind::NewObj,
+        Action::NewGrid { .. } => ActKind::NewGrid,
+        Action::GetElem { .. } => ActKind::GetElem,
+        Action::PutElem { .. } => ActKind::PutElem,
+        Action::MakeView { .. } => ActKind::MakeView,
+        Action::DomainOf { .. } => ActKind::DomainOf,
+        Action::Print { .. } => ActKind::Print,
+        Action::Arrive { .. } => ActKind::Arrive,
+        Action::Depart => ActKind::Depart,
+        Action::Take { .. } => ActKind::Take,
+        Action::End => ActKind::End,
+        Action::Fault { .. } => ActKind::Fault,
+    }
+}
+
+impl ActKind {
+    /// Its name, of at most 8 bytes.
+    pub fn word(self) -> &'static str
+        ensures word { result.now ≡ kind_word self }
+        ensures short { length result.now ≤ 8 }
+    {
+        match self {
+            ActKind::GetField => "getField",
+            ActKind::PutField => "putField",
+            ActKind::NewObj => "newObj",
+            ActKind::NewGrid => "newGrid",
+            ActKind::GetElem => "getElem",
+            ActKind::PutElem => "putElem",
+            ActKind::MakeView => "makeView",
+            ActKind::DomainOf => "domainOf",
+            ActKind::Print => "print",
+            ActKind::Arrive => "arrive",
+            ActKind::Depart => "depart",
+            ActKind::Take => "take",
+            ActKind::End => "end",
+            ActKind::Fault => "fault",
+        }
     }
 }
 
@@ -223,7 +267,7 @@ impl Line {
         ensures text { self.new ≡ self.old ++ spec.act_text act }
         ensures bound { length self.new ≤ length self.old + 179 }
     {
-        self.text(act_word(act).as_bytes());
+        self.text(act_kind(act).word().as_bytes());
         self.operands(act);
     }
 

@@ -1,14 +1,15 @@
 // Statistics: the number of entries of each operation.
-ghost use Rattle.std.specs.Prelude.{◌≡◌, ◌≤◌, [], ◌++◌, length, take, vec_len, count_by, flat_map, bytes_eq, OnOk};
-ghost use Rattle.ti_watch.specs.Acts.{action_word};
-ghost use Rattle.ti_watch.specs.Reports.{number_text, count_text, stats_text};
+ghost use Rattle.std.specs.Prelude.{◌≡◌, ◌≤◌, [], ◌++◌, length, take, vec_len, count_by, map, flat_map, bytes_eq, OnOk};
+ghost use Rattle.ti_watch.specs.Mirrors.{kind_word, kind_count_text, kind_stats_text};
+ghost use Rattle.ti_watch.specs.Reports.{number_text};
 
 use crate::Watch;
-use crate::acts::act_word;
+use crate::acts::{ActKind, act_kind};
 use crate::line::Line;
 use std::alloc::Global;
 use std::marker::Model;
 use ti_base::{Entry, Memory};
+use ti_ghost::GhostEntries;
 
 // The names of operations, in the order of the lines of the report.
 const WORDS: [&str; 14] = [
@@ -17,18 +18,24 @@ const WORDS: [&str; 14] = [
 ];
 
 /// A watcher that reports how many entries there are of each operation. Its kind is 1.
+///
+/// It keeps one byte for each entry: its operation.
 #[derive(Drop)]
 pub struct StatsWatch {
-    told: Vec<Entry>,
+    kinds: Vec<ActKind>,
+    told: GhostEntries,
 }
 
 impl Model for StatsWatch {
-    ghost use Rattle.std.specs.Prelude.{List};
+    ghost use Rattle.std.specs.Prelude.{◌≡◌, List};
     ghost use Rattle.ti_base.specs.declared.entry.Entry.{Entry};
+    ghost use Rattle.ti_watch.specs.Mirrors.{entry_kinds};
 
     ghost Value = { List Entry };
 
-    ghost view = { λ watch. watch.told.items };
+    ghost view = { λ watch. watch.told.entries };
+
+    ghost invariant = { λ watch. watch.kinds.items ≡ entry_kinds watch.told.entries };
 }
 
 impl StatsWatch {
@@ -37,18 +44,19 @@ impl StatsWatch {
         ensures { result ≡ [] }
     {
         StatsWatch {
-            told: Vec::new(alloc),
+            kinds: Vec::new(alloc),
+            told: GhostEntries::new(),
         }
     }
 }
 
-// The number of entries of the operation with this name.
-fn count_of(entries: &[Entry], word: &str) -> usize
-    ensures { result ≡ count_by (λ e. bytes_eq (action_word e.act) word.now) entries.now }
+// How many of the operations have this name.
+fn count_of(kinds: &[ActKind], word: &str) -> usize
+    ensures { result ≡ count_by (λ kind. bytes_eq (kind_word kind) word.now) kinds.now }
 {
     let mut count = 0;
-    for e in entries {
-        if act_word(e.act) == word {
+    for kind in kinds {
+        if kind.word() == word {
             count += 1;
         }
     }
@@ -68,33 +76,34 @@ fn number_line(label: &[u8], count: usize) -> Line
 }
 
 // Appends the line of one operation. If it runs out of memory, it may have appended a part of it.
-fn add_count(entries: &[Entry], word: &str, out: &mut Vec<u8>) -> Result<(), Memory>
-    ensures text { OnOk result (out.new.items ≡ out.old.items ++ count_text entries.now word.now) }
+fn add_count(kinds: &[ActKind], word: &str, out: &mut Vec<u8>) -> Result<(), Memory>
+    ensures text { OnOk result (out.new.items ≡ out.old.items ++ kind_count_text kinds.now word.now) }
     ensures kept { take (vec_len out.old) out.new.items ≡ out.old.items }
 {
     out.extend_from_slice(word.as_bytes())?;
-    out.extend_from_slice(number_line(b"", count_of(entries, word)).as_slice())?;
+    out.extend_from_slice(number_line(b"", count_of(kinds, word)).as_slice())?;
     Ok(())
 }
 
 // Appends the lines of these operations. If it runs out of memory, it may have appended a part of them.
-fn add_counts(entries: &[Entry], words: &[&'static str], out: &mut Vec<u8>) -> Result<(), Memory>
-    ensures text { OnOk result (out.new.items ≡ out.old.items ++ flat_map (λ word. count_text entries.now word.now) words.now) }
+fn add_counts(kinds: &[ActKind], words: &[&'static str], out: &mut Vec<u8>) -> Result<(), Memory>
+    ensures text { OnOk result (out.new.items
+        ≡ out.old.items ++ flat_map (λ word. kind_count_text kinds.now word.now) words.now) }
     ensures kept { take (vec_len out.old) out.new.items ≡ out.old.items }
 {
     for word in words {
-        add_count(entries, word, out)?;
+        add_count(kinds, word, out)?;
     }
     Ok(())
 }
 
 // Appends the report. If it runs out of memory, it may have appended a part of it.
-fn add_report(entries: &[Entry], out: &mut Vec<u8>) -> Result<(), Memory>
-    ensures text { OnOk result (out.new.items ≡ out.old.items ++ stats_text entries.now) }
+fn add_report(kinds: &[ActKind], out: &mut Vec<u8>) -> Result<(), Memory>
+    ensures text { OnOk result (out.new.items ≡ out.old.items ++ kind_stats_text kinds.now) }
     ensures kept { take (vec_len out.old) out.new.items ≡ out.old.items }
 {
-    out.extend_from_slice(number_line(b"stats entries", entries.len()).as_slice())?;
-    add_counts(entries, &WORDS, out)
+    out.extend_from_slice(number_line(b"stats entries", kinds.len()).as_slice())?;
+    add_counts(kinds, &WORDS, out)
 }
 
 impl Watch for StatsWatch {
@@ -107,16 +116,19 @@ impl Watch for StatsWatch {
     }
 
     fn see(&mut self, entry: &Entry) -> Result<(), Memory> {
-        self.told.push(*entry)?;
+        self.kinds.push(act_kind(entry.act))?;
+        self.told = self.told.and(entry);
         Ok(())
     }
 
     fn report(&self, out: &mut Vec<u8>) -> Result<(), Memory> {
         let len = out.len();
-        if add_report(&self.told, out).is_err() {
-            out.truncate(len);
-            return Err(Memory);
+        match add_report(&self.kinds, out) {
+            Ok(()) => Ok(()),
+            Err(memory) => {
+                out.truncate(len);
+                Err(memory)
+            }
         }
-        Ok(())
     }
 }

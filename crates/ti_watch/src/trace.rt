@@ -1,27 +1,37 @@
 // Traces: one line for each entry.
-ghost use Rattle.std.specs.Prelude.{◌≡◌, ◌+◌, ◌≤◌, [], ◌++◌, length, take, vec_len, OnOk};
+ghost use Rattle.std.specs.Prelude.{◌≡◌, ◌+◌, ◌≤◌, [], ◌++◌, length};
 ghost use Rattle.ti_watch.specs.Lines.{line_room};
-ghost use Rattle.ti_watch.specs.Reports.{entry_text, trace_text};
+ghost use Rattle.ti_watch.specs.Reports.{entry_text};
 
 use crate::Watch;
 use crate::line::Line;
 use std::alloc::Global;
 use std::marker::Model;
 use ti_base::{Entry, Memory};
+use ti_ghost::GhostEntries;
 
 /// A watcher that lists the entries, one line for each. Its kind is 0.
+///
+/// It keeps their lines.
 #[derive(Drop)]
 pub struct TraceWatch {
-    told: Vec<Entry>,
+    lines: Vec<u8>,
+    // How many entries it has observed.
+    count: usize,
+    told: GhostEntries,
 }
 
 impl Model for TraceWatch {
-    ghost use Rattle.std.specs.Prelude.{List};
+    ghost use Rattle.std.specs.Prelude.{◌≡◌, List, length};
     ghost use Rattle.ti_base.specs.declared.entry.Entry.{Entry};
+    ghost use Rattle.ti_watch.specs.Reports.{trace_text};
 
     ghost Value = { List Entry };
 
-    ghost view = { λ watch. watch.told.items };
+    ghost view = { λ watch. watch.told.entries };
+
+    ghost invariant = { λ watch. (watch.count ≡ length watch.told.entries)
+        × (watch.lines.items ≡ trace_text watch.told.entries) };
 }
 
 impl TraceWatch {
@@ -30,7 +40,9 @@ impl TraceWatch {
         ensures { result ≡ [] }
     {
         TraceWatch {
-            told: Vec::new(alloc),
+            lines: Vec::new(alloc),
+            count: 0,
+            told: GhostEntries::new(),
         }
     }
 }
@@ -62,17 +74,6 @@ fn entry_line(number: usize, entry: &Entry) -> Line
     line
 }
 
-// Appends the lines of these entries. If it runs out of memory, it may have appended a part of them.
-fn add_lines(entries: &[Entry], out: &mut Vec<u8>) -> Result<(), Memory>
-    ensures text { OnOk result (out.new.items ≡ out.old.items ++ trace_text entries.now) }
-    ensures kept { take (vec_len out.old) out.new.items ≡ out.old.items }
-{
-    for (number, e) in entries.iter().enumerate() {
-        out.extend_from_slice(entry_line(number, e).as_slice())?;
-    }
-    Ok(())
-}
-
 impl Watch for TraceWatch {
     ghost kind_of = { λ _. 0 };
 
@@ -82,17 +83,20 @@ impl Watch for TraceWatch {
         0
     }
 
+    // An entry beyond the greatest number that counts entries is one too many for the memory, too.
     fn see(&mut self, entry: &Entry) -> Result<(), Memory> {
-        self.told.push(*entry)?;
+        if self.count == usize::MAX {
+            return Err(Memory);
+        }
+        self.lines
+            .extend_from_slice(entry_line(self.count, entry).as_slice())?;
+        self.count += 1;
+        self.told = self.told.and(entry);
         Ok(())
     }
 
     fn report(&self, out: &mut Vec<u8>) -> Result<(), Memory> {
-        let len = out.len();
-        if add_lines(&self.told, out).is_err() {
-            out.truncate(len);
-            return Err(Memory);
-        }
+        out.extend_from_slice(&self.lines)?;
         Ok(())
     }
 }
