@@ -7,6 +7,8 @@ mod gates;
 #[cfg(test)]
 mod heaps;
 #[cfg(test)]
+mod packed_histories;
+#[cfg(test)]
 mod races;
 #[cfg(test)]
 mod regions_and_rounds;

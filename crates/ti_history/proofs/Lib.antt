@@ -1,0 +1,4 @@
+mod Crossing
+pub mod Lemmas
+mod OneEntry
+mod Packed
