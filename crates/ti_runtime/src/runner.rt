@@ -28,8 +28,9 @@ use std::sync::Wait;
 use std::sync::atomic::AtomicBool;
 use std::thread::Threads;
 use ti_align::{aligned, answers_fit, rounds_balance};
-use ti_base::{Action, Entry, Memory};
+use ti_base::{Action, Memory};
 use ti_code::Code;
+use ti_history::PackedHistory;
 use ti_io::Gate;
 use ti_pending::PendingProc;
 use ti_rules::Checked;
@@ -52,7 +53,7 @@ pub enum How {
 #[derive(Drop)]
 pub struct RunEnd {
     pub how: How,
-    pub history: Vec<Entry>,
+    pub history: PackedHistory,
     pub done: Vec<u64>,
 }
 
@@ -62,7 +63,7 @@ fn out_of_memory_end(alloc: Global) -> RunEnd
 {
     RunEnd {
         how: How::Memory,
-        history: Vec::new(alloc),
+        history: PackedHistory::new(alloc),
         done: Vec::new(alloc),
     }
 }
@@ -97,8 +98,8 @@ fn faults(action: Action) -> bool
 }
 
 // Whether the last entry of a run is a fault.
-fn ends_with_fault(entries: &[Entry]) -> bool
-    ensures { (s : RunConfig) → IsRun s entries.now → result ≡ has_fault entries.now }
+fn ends_with_fault(entries: &PackedHistory) -> bool
+    ensures { (s : RunConfig) → IsRun s entries.now.items → result ≡ has_fault entries.now.items }
 {
     match entries.last() {
         Some(entry) => faults(entry.act),

@@ -50,8 +50,8 @@ impl RunState {
         requires there { makes_region (act.Arrive kind arg given) ≡ true → rounds_making proc (history_in self.old) < length self.old.regions }
         ensures { HasEffect self.old proc place (act.Arrive kind arg given) result self.new }
     {
-        // For the prover: the capacity's bound shows that the arrivals can be counted without overflow.
-        let _room = self.entries.capacity();
+        // For the prover: the bound of the number of entries shows that the arrivals can be counted without overflow.
+        let _bound = self.entries.len();
         self.region_rounds.count(proc, kind);
         self.rounds.arrive(proc, kind, place, arg, given);
         ActOutcome::Answered(Answer::Done)

@@ -1,8 +1,9 @@
 // What a store keeps of a run.
 
 use crate::region_rounds::RegionRounds;
-use ti_base::{Answer, Entry, FaultKind};
+use ti_base::{Answer, FaultKind};
 use ti_heap::Heap;
+use ti_history::PackedHistory;
 use ti_lang::program::Program;
 use ti_region::Regions;
 use ti_rounds::Rounds;
@@ -13,7 +14,7 @@ use ti_rounds::Rounds;
 pub struct RunState {
     pub program: Program,
     pub procs: u32,
-    pub entries: Vec<Entry>,
+    pub entries: PackedHistory,
     pub heap: Heap,
     /// The state of the collectives.
     pub rounds: Rounds,

@@ -19,6 +19,7 @@ use ti_align::{
 };
 use ti_base::{Action, Answer, Entry, Memory, Place};
 use ti_heap::Heap;
+use ti_history::PackedHistory;
 use ti_region::Regions;
 use ti_rounds::Rounds;
 use ti_rules::Checked;
@@ -70,7 +71,7 @@ impl<J: RunConfigOf> Kept for Store<J> {
     }
 
     fn number_at(&self, index: usize) -> u32 {
-        self.run_state.entries[index].proc
+        self.run_state.entries.proc_at(index)
     }
 }
 
@@ -105,7 +106,7 @@ impl<J: RunConfigOf> Store<J> {
         let run_state = RunState {
             program,
             procs,
-            entries: Vec::new(alloc),
+            entries: PackedHistory::new(alloc),
             heap,
             rounds,
             region_rounds,
@@ -170,15 +171,15 @@ impl<J: RunConfigOf> Store<J> {
     }
 
     /// The entries so far, which are a run.
-    pub fn history(&self) -> &[Entry]
-        ensures entries { result.now ≡ self.now.entries }
+    pub fn history(&self) -> &PackedHistory
+        ensures entries { result.now.items ≡ self.now.entries }
         ensures run { IsRun (config_of self.now) self.now.entries }
     {
         &self.run_state.entries
     }
 
     /// Takes the store apart and returns the entries, which are a run.
-    pub fn into_history(self) -> Vec<Entry>
+    pub fn into_history(self) -> PackedHistory
         ensures entries { result.items ≡ self.entries }
         ensures run { IsRun (config_of self) self.entries }
     {

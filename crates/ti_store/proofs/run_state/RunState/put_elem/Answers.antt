@@ -28,7 +28,7 @@ note_put-requires-clause-after c =
     let l = c.args.self.now in
     can_gain l.regions c.args.grid.region (length (history_in l)) c.in-Ok.before c.args.value
     (names_there (history_in l) l.regions c.args.value c.requires.kept.regions_are c.requires.may.regions.numbered c.requires.may.regions.written) c.requires.kept.regions_are.few
-    (room_for l.entries.items (omega (arith, l.entries.ok.0, c.requires.room, c.capacity-room.ensures, c.capacity-room.type_inv)))
+    (room_for l.entries.items (omega (arith, c.len-bound.ensures.len, c.len-bound.ensures.bound)))
     (elem_can_lose (program_in l) l.procs (history_in l) (contents l.heap) l.regions c.args.proc c.args.grid c.args.point c.in-Ok.before
     c.args.value c.requires.kept.heap c.requires.kept.refs c.requires.may.regions.living.used
     c.requires.may.possible c.in-Ok.ensures.value)
@@ -55,7 +55,7 @@ returns c =
     let may : CanGain (one_less l.regions (counted_for c.args.grid.region c.in-Ok.before)) (counted_for c.args.grid.region c.args.value) =
     can_gain l.regions c.args.grid.region (length h) c.in-Ok.before c.args.value
     placed c.requires.kept.regions_are.few
-    (room_for l.entries.items (omega (arith, l.entries.ok.0, c.requires.room, c.capacity-room.ensures, c.capacity-room.type_inv)))
+    (room_for l.entries.items (omega (arith, c.len-bound.ensures.len, c.len-bound.ensures.bound)))
     (elem_can_lose (program_in l) l.procs h (contents l.heap) l.regions c.args.proc c.args.grid c.args.point c.in-Ok.before c.args.value
     c.requires.kept.heap c.requires.kept.refs alive c.requires.may.possible c.in-Ok.ensures.value) in
     let done = put_elem_done (program_in l) l.procs h (contents l.heap)

@@ -27,7 +27,7 @@ note_put-requires-clause-after c =
     let h = history_in l in
     can_gain l.regions c.args.obj.region (length h) c.get_field-before.result c.args.value
     (names_there h l.regions c.args.value c.requires.kept.regions_are c.requires.may.regions.numbered c.requires.may.regions.written) c.requires.kept.regions_are.few
-    (room_for l.entries.items (omega (arith, l.entries.ok.0, c.requires.room, c.capacity-room.ensures, c.capacity-room.type_inv)))
+    (room_for l.entries.items (omega (arith, c.len-bound.ensures.len, c.len-bound.ensures.bound)))
     (can_lose (contents l.heap).held l.regions (cell_at c.args.obj c.args.field) c.get_field-before.result c.requires.kept.refs c.get_field-before.ensures)
 
 pub put_field-requires : goal.put_field-requires
@@ -44,7 +44,7 @@ returns c =
     (counted_for c.args.obj.region c.args.value) = can_gain l.regions c.args.obj.region
     (length h) c.get_field-before.result c.args.value
     placed c.requires.kept.regions_are.few
-    (room_for l.entries.items (omega (arith, l.entries.ok.0, c.requires.room, c.capacity-room.ensures, c.capacity-room.type_inv)))
+    (room_for l.entries.items (omega (arith, c.len-bound.ensures.len, c.len-bound.ensures.bound)))
     (can_lose (contents l.heap).held l.regions (cell_at c.args.obj c.args.field) c.get_field-before.result c.requires.kept.refs c.get_field-before.ensures) in
     record {
       answer = put_answer (program_in l) h c.args.proc c.args.obj c.args.field c.args.value c.requires.may.possible;

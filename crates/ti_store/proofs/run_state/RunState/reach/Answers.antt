@@ -32,7 +32,7 @@ pub arrive-requires-clause-countable : goal.arrive-requires-clause-countable
 arrive-requires-clause-countable c =
     let l = c.args.self.now in
     countable l.procs l.entries.items l.rounds c.args.proc (2 ^ 64 - 1) c.requires.ready.kept.rounds
-    (omega (arith, l.entries.ok.0, c.requires.ready.room, c.capacity-room.ensures, c.capacity-room.type_inv))
+    (omega (arith, c.len-bound.ensures.len, c.len-bound.ensures.bound))
 
 pub count-requires-clause-process : goal.count-requires-clause-process
 count-requires-clause-process c = let l = c.args.self.now in subst (λ n. c.args.proc < n) (sym c.requires.ready.kept.region_rounds_are.count) c.requires.ready.process

@@ -13,7 +13,7 @@ pub invariant_of-result : goal.invariant_of-result
 invariant_of-result g c =
     let program = program_of c.in_ok-program.program.parts in
     let s : RunConfig = record { program = program; procs = c.args.procs; fuel = c.args.fuel } in
-    let empty = c.new-4.ensures.items in
+    let empty = c.new-4.ensures in
     record {
       run_state = record {
         within = c.requires.within;

@@ -12,4 +12,4 @@ returns g c =
     let same = c.self.view_is in
     let lt : c.args.index < length (log_of es) = subst (λ (t : StoreState). c.args.index < length (log_of t.entries)) (sym same) c.requires in
     let near : c.args.index < length es = omega (arith, lt, length-map {B = ℕ × Entry} es (λ (e : Entry). (e.proc, e))) in
-    ap (λ (e : Entry). e.proc) c.index.ensures ∙ number_logged es c.args.index c.index.result.now near ∙ ap (λ (t : StoreState). number_at (log_of t.entries) c.args.index) same
+    number_logged es c.args.index c.proc_at.result near c.proc_at.ensures ∙ ap (λ (t : StoreState). number_at (log_of t.entries) c.args.index) same
