@@ -4,7 +4,6 @@ pub mod Deletes
 pub mod Determined
 pub mod BlockDomains
 pub mod RangeForms
-pub mod Fieldless
 pub mod Free
 pub mod Gone
 pub mod Lists

@@ -10,19 +10,19 @@ ghost use Rattle.ti_lang.specs.Meaning.Races.{races};
 ghost use Rattle.ti_lang.specs.Meaning.Spots.{races_told};
 ghost use Rattle.ti_lang.specs.Meaning.Determinacy.{Determines};
 
-use ti_base::Entry;
+use ti_history::PackedHistory;
 use ti_lang::program::Program;
 
 /// Determinacy: if a run of an aligned program has no race and all processes terminated in it, then in every run of that program with as
 /// many processes and as much fuel, the entries of each process are a prefix of its entries in this run.
-pub fn determinate(program: &Program, procs: u32, fuel: u32, entries: &[Entry])
+pub fn determinate(program: &Program, procs: u32, fuel: u32, history: &PackedHistory)
     requires some_procs { 1 ≤ procs }
     requires few_procs { procs ≤ most_procs }
     requires some_fuel { 1 ≤ fuel }
     requires little_fuel { fuel ≤ most_fuel }
     requires is_aligned { IsAligned (program_of program.now.parts) }
-    requires is_run { IsRun (record { program = program_of program.now.parts; procs = procs; fuel = fuel }) entries.now }
-    ensures { Determines (record { program = program_of program.now.parts; procs = procs; fuel = fuel }) entries.now }
+    requires is_run { IsRun (record { program = program_of program.now.parts; procs = procs; fuel = fuel }) history.now.items }
+    ensures { Determines (record { program = program_of program.now.parts; procs = procs; fuel = fuel }) history.now.items }
 {}
 
 /// Which entries of a run race is determined by the entries only, without the program: two accesses refer to one memory location if and

@@ -4,7 +4,6 @@
 
 mod finding;
 mod forms;
-mod ghost_entries;
 mod grid_layout;
 mod history_index;
 mod laws;

@@ -2,13 +2,13 @@
 ghost use Rattle.std.specs.Prelude.{◌≡◌, [], ◌∷◌, ◌++◌, codes, decimal, flat_map, take, vec_len, OnOk};
 ghost use Rattle.ti_race.specs.Mirrors.HistoryIndex.{use_line, report_of};
 
-use crate::ghost_entries::GhostEntries;
 use crate::spots::Use;
 use crate::table::racing_of;
 use crate::uses::Uses;
 use std::alloc::Global;
 use std::marker::Model;
 use ti_base::{Entry, Memory};
+use ti_ghost::GhostEntries;
 use ti_watch::{Line, Watch};
 
 /// A watcher that lists the entries that race, one line for each. Its kind is 2.

@@ -10,6 +10,7 @@ use crate::job_result::JobResult;
 use crate::reports::write_text;
 use std::alloc::Global;
 use ti_code::code_text;
+use ti_history::PackedHistory;
 use ti_io::Sink;
 use ti_lower::lower;
 use ti_rules::Checked;
@@ -31,7 +32,7 @@ pub fn write_code<K: Sink>(alloc: Global, checked: &Checked, out: &mut K) -> Res
     Ok(JobResult {
         ending,
         code: Some(code),
-        history: Vec::new(alloc),
+        history: PackedHistory::new(alloc),
         done: Vec::new(alloc),
     })
 }

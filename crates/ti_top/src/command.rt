@@ -9,8 +9,8 @@ use crate::run_job::run_job;
 use std::alloc::{AllocGlobal, Global};
 use std::sync::Wait;
 use std::thread::Threads;
-use ti_base::Entry;
 use ti_code::Code;
+use ti_history::PackedHistory;
 use ti_io::{Gate, Sink, Source};
 use ti_watch::Watch;
 use ti_words::{WordsErr, read_words};
@@ -29,7 +29,7 @@ pub struct Outcome {
     /// there is none.
     pub code: Option<Code>,
     /// The entries of the run, in order. In mode verify those of the trace: of its complete run, or of the lines before the wrong one.
-    pub history: Vec<Entry>,
+    pub history: PackedHistory,
     /// For each process, in the order of their numbers, how many instructions of the code it has finished, given the answers to its entries, if
     /// the program was run and the history is complete. If nothing was run it is empty.
     pub done: Vec<u64>,
@@ -48,7 +48,7 @@ impl Outcome {
             status,
             text: Vec::new(alloc),
             code: None,
-            history: Vec::new(alloc),
+            history: PackedHistory::new(alloc),
             done: Vec::new(alloc),
         }
     }

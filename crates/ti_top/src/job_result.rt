@@ -5,8 +5,8 @@ ghost use Rattle.ti_top.specs.Mirrors.Verifying.{ending_by, run_by};
 
 use crate::exit::Exit;
 use std::alloc::Global;
-use ti_base::Entry;
 use ti_code::Code;
+use ti_history::PackedHistory;
 use ti_runtime::RunEnd;
 use ti_trace_check::Verdict;
 
@@ -16,7 +16,7 @@ use ti_trace_check::Verdict;
 pub struct JobResult {
     pub ending: Exit,
     pub code: Option<Code>,
-    pub history: Vec<Entry>,
+    pub history: PackedHistory,
     pub done: Vec<u64>,
 }
 
@@ -41,7 +41,7 @@ impl JobResult {
         JobResult {
             ending,
             code: None,
-            history: Vec::new(alloc),
+            history: PackedHistory::new(alloc),
             done: Vec::new(alloc),
         }
     }

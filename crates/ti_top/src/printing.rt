@@ -10,7 +10,8 @@ ghost use Rattle.ti_top.specs.Mirrors.JobView.{head_after, summary_after};
 use crate::exit::Exit;
 use crate::run_line::RunLine;
 use crate::summary::summary_line;
-use ti_base::{Action, Entry, Value};
+use ti_base::{Action, Value};
+use ti_history::PackedHistory;
 use ti_io::{Failed, Sink, write_piece};
 use ti_lang::program::Program;
 use ti_syntax::Spelled;
@@ -69,12 +70,12 @@ fn write_entries<K: Sink>(
     out: &mut K,
     line: &mut RunLine,
     program: &Program,
-    history: &[Entry],
+    history: &PackedHistory,
 ) -> Result<(), Failed>
     requires { HasLineRoom program.now.parts.literals.items line.old }
-    ensures { Writes (lines_of (program_of program.now.parts) history.now) (K.state out.old) (K.state out.new) result }
+    ensures { Writes (lines_of (program_of program.now.parts) history.now.items) (K.state out.old) (K.state out.new) result }
 {
-    'entries: for entry in history {
+    'entries: for entry in history.iter() {
         form_line(line, &program.parts.literals, entry.act);
         write_piece(out, line.as_slice())?;
     }
@@ -86,10 +87,10 @@ fn write_lines<K: Sink>(
     out: &mut K,
     line: &mut RunLine,
     program: &Program,
-    history: &[Entry],
+    history: &PackedHistory,
 ) -> Result<(), Failed>
     requires { HasLineRoom program.now.parts.literals.items line.old }
-    ensures written { Writes (lines_of (program_of program.now.parts) history.now) (K.state out.old) (K.state out.new) result }
+    ensures written { Writes (lines_of (program_of program.now.parts) history.now.items) (K.state out.old) (K.state out.new) result }
     ensures unfailed { OnOk result (HasNoFailure (K.state out.old) (K.state out.new)) }
 {
     write_entries(out, line, program, history)?;
@@ -97,8 +98,8 @@ fn write_lines<K: Sink>(
 }
 
 // Writes the summary of a run, and flushes standard output.
-fn write_summary<K: Sink>(out: &mut K, ended: Exit, history: &[Entry]) -> Result<(), Failed>
-    ensures written { Writes (summary_after ended history.now) (K.state out.old) (K.state out.new) result }
+fn write_summary<K: Sink>(out: &mut K, ended: Exit, history: &PackedHistory) -> Result<(), Failed>
+    ensures written { Writes (summary_after ended history.now.items) (K.state out.old) (K.state out.new) result }
     ensures unfailed { OnOk result (HasNoFailure (K.state out.old) (K.state out.new)) }
 {
     match ended {
@@ -117,10 +118,10 @@ pub fn write_head<K: Sink>(
     mode: Mode,
     ended: Exit,
     program: &Program,
-    history: &[Entry],
+    history: &PackedHistory,
 ) -> Result<(), Failed>
     requires { HasLineRoom program.now.parts.literals.items line.old }
-    ensures written { Writes (head_after mode ended (program_of program.now.parts) history.now) (K.state out.old) (K.state out.new) result }
+    ensures written { Writes (head_after mode ended (program_of program.now.parts) history.now.items) (K.state out.old) (K.state out.new) result }
     ensures unfailed { OnOk result (HasNoFailure (K.state out.old) (K.state out.new)) }
 {
     match mode {

@@ -8,6 +8,7 @@ ghost use Rattle.ti_top.specs.Mirrors.Reporting.{WritesReports};
 
 use std::alloc::Global;
 use ti_base::{Entry, Memory};
+use ti_history::PackedHistory;
 use ti_io::{Failed, Sink, write_piece};
 use ti_watch::Watch;
 use ti_words::Job;
@@ -66,12 +67,12 @@ fn report_one(watcher: &Box<dyn Watch>, out: &mut Vec<u8>) -> Result<(), Memory>
 }
 
 // Shows a watcher the entries of a history in order.
-fn tell(watcher: &mut Box<dyn Watch>, history: &[Entry]) -> Result<(), Memory>
+fn tell(watcher: &mut Box<dyn Watch>, history: &PackedHistory) -> Result<(), Memory>
     ensures kind { kind_of watcher.new ≡ kind_of watcher.old }
-    ensures told { OnOk result (told watcher.new ≡ told watcher.old ++ history.now) }
+    ensures told { OnOk result (told watcher.new ≡ told watcher.old ++ history.now.items) }
 {
-    'entries: for entry in history {
-        see_one(watcher, entry)?;
+    'entries: for entry in history.iter() {
+        see_one(watcher, &entry)?;
     }
     Ok(())
 }
@@ -89,10 +90,10 @@ pub fn write_text<K: Sink>(out: &mut K, text: &[u8]) -> Result<(), Failed>
 fn write_report<K: Sink>(
     alloc: Global,
     watcher: Box<dyn Watch>,
-    history: &[Entry],
+    history: &PackedHistory,
     out: &mut K,
 ) -> ReportEnd
-    ensures reported { WritesReports (record { kind = kind_of watcher; told = told watcher } ∷ []) history.now (K.state out.old)
+    ensures reported { WritesReports (record { kind = kind_of watcher; told = told watcher } ∷ []) history.now.items (K.state out.old)
         (K.state out.new) result }
     ensures leaves { ReportsLeave result (K.state out.old) (K.state out.new) }
 {
@@ -114,10 +115,10 @@ fn write_report<K: Sink>(
 pub fn write_reports<K: Sink>(
     alloc: Global,
     watchers: Vec<Box<dyn Watch>>,
-    history: &[Entry],
+    history: &PackedHistory,
     out: &mut K,
 ) -> ReportEnd
-    ensures reported { WritesReports (map {B = Watcher} (λ w. record { kind = kind_of w; told = told w }) watchers.items) history.now
+    ensures reported { WritesReports (map {B = Watcher} (λ w. record { kind = kind_of w; told = told w }) watchers.items) history.now.items
         (K.state out.old) (K.state out.new) result }
     ensures leaves { ReportsLeave result (K.state out.old) (K.state out.new) }
 {

@@ -33,9 +33,9 @@ use std::alloc::Global;
 use std::sync::Wait;
 use std::thread::Threads;
 use ti_align::actions_formed;
-use ti_base::Entry;
 use ti_code::Code;
 use ti_gen::gen_source;
+use ti_history::PackedHistory;
 use ti_io::{Gate, Sink, Source};
 use ti_lower::lower;
 use ti_race::{determinate, races_are_told};
@@ -74,11 +74,11 @@ fn ending_after(reports: ReportEnd, ending: Exit) -> Exit
 fn report_after<K: Sink>(
     alloc: Global,
     ended: Exit,
-    history: &[Entry],
+    history: &PackedHistory,
     watchers: Vec<Box<dyn Watch>>,
     out: &mut K,
 ) -> Exit
-    ensures reports { ReportsAfter ended (map {B = Watcher} (λ w. record { kind = kind_of w; told = told w }) watchers.items) history.now
+    ensures reports { ReportsAfter ended (map {B = Watcher} (λ w. record { kind = kind_of w; told = told w }) watchers.items) history.now.items
         (K.state out.old) (K.state out.new) result }
     ensures leaves { LeavesOut result (K.state out.old) (K.state out.new) }
 {

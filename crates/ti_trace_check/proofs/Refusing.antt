@@ -1,9 +1,9 @@
 -- Lines that are those of no entry.
-use Rattle.std.proofs.Common.{◌≡◌, ◌⊎◌, inl, inr, ℕ, suc, ◌+◌, ◌<◌, ◌≤◌, List, [], ◌∷◌, ◌++◌, length, take, get_or, refl, ap, sym, ◌∙◌, subst, arith, append_assoc, append-nil, length-append}
-use Rattle.std.specs.Prelude.{Option, Some, None, codes, decimal}
+use Rattle.std.proofs.Common.{◌≡◌, ◌⊎◌, inl, inr, ℕ, suc, ◌+◌, ◌-◌, ◌<◌, ◌≤◌, List, [], ◌∷◌, ◌++◌, length, take, refl, ap, sym, ◌∙◌, subst, arith, append_assoc, append-nil, length-append}
+use Rattle.std.specs.Prelude.{Option, Some, None, codes, decimal, slice_get}
 use Rattle.std.proofs.lemmas.List.{take_at, take_all, get_or_push}
 use Rattle.std.proofs.lemmas.Fmt.{length-decimal-le}
-use Rattle.std.proofs.lemmas.Option.{same_Some}
+use Rattle.std.proofs.lemmas.Option.{same_Some, slice_get_read}
 use Rattle.ti_base.specs.declared.entry.Entry.{Entry}
 use Rattle.ti_lang.specs.Meaning.Processes.{RunConfig}
 use Rattle.ti_lang.specs.Meaning.Runs.{CanTake}
@@ -73,21 +73,21 @@ names_line n e line more small short z which = by which
 
 -- ---- why a line is off
 
--- what the code finds is the process that the line of the next entry names
-abbrev pub Finds : List Entry → List ℕ → Option ℕ → Type 0
-Finds es line result = (p : ℕ) (more : List ℕ) → p < 100 → line ≡ decimal (length es) ++ codes " p" ++ decimal p ++ 32 ∷ more → result ≡ Some p
+-- what the code finds is the process that the line of the entry of this number names
+abbrev pub Finds : ℕ → List ℕ → Option ℕ → Type 0
+Finds number line result = (p : ℕ) (more : List ℕ) → p < 100 → line ≡ decimal number ++ codes " p" ++ decimal p ++ 32 ∷ more → result ≡ Some p
 
-pub finds_of : (xs es : List Entry) (line : List ℕ) (result : Option ℕ) → xs ≡ es → Finds xs line result → Finds es line result
-finds_of xs es line result same f = subst (λ zs. Finds zs line result) same f
+pub finds_of : (m n : ℕ) (line : List ℕ) (result : Option ℕ) → m ≡ n → Finds m line result → Finds n line result
+finds_of m n line result same f = subst (λ k. Finds k line result) same f
 
-pub short_of : (xs es : List Entry) → xs ≡ es → length (decimal (length xs)) ≤ 20 → length (decimal (length es)) ≤ 20
-short_of xs es same f = subst (λ (zs : List Entry). length (decimal (length zs)) ≤ 20) same f
+pub short_of : (m n : ℕ) → m ≡ n → length (decimal m) ≤ 20 → length (decimal n) ≤ 20
+short_of m n same f = subst (λ k. length (decimal k) ≤ 20) same f
 
 -- the same of a line and a setting that are the same
 pub off_of : (s t : RunConfig) (es all : List Entry) (line same : List ℕ) → s ≡ t → line ≡ same → IsWrongLine s es all line → IsWrongLine t es all same
 off_of s t es all line same e f x = subst (λ l. IsWrongLine t es all l) f (subst (λ z. IsWrongLine z es all line) e x)
 
-module _ (s : RunConfig) (es : List Entry) (line : List ℕ) (few : s.procs ≤ 32) (result : Option ℕ) (names : Finds es line result)
+module _ (s : RunConfig) (es : List Entry) (line : List ℕ) (few : s.procs ≤ 32) (result : Option ℕ) (names : Finds (length es) line result)
     (short : length (decimal (length es)) ≤ 20) where
   below : (i n : ℕ) → i < n → n ≤ 32 → i < 100
   below i n l m = omega arith
@@ -153,11 +153,26 @@ module _ (s : RunConfig) (es : List Entry) (line : List ℕ) (few : s.procs ≤ 
       off more z (inl none) = other (z ∙ ap (λ m. line ++ m) none ∙ append-nil line)
       off more z (inr long) = too_long (length (entry_text (length es) entry)) (length line) (length more) (ap length z ∙ length-append line more) bound long
 
--- the line of the last entry
-pub line_is : (es all before behind : List Entry) (e d : Entry) (line : List ℕ) → before ≡ es → behind ≡ all → all ≡ es ++ e ∷ [] → line
-    ≡ entry_text (length before) (get_or behind (length before) d) → line ≡ entry_text (length es) e
-line_is es all before behind e d line b a after is =
-    is
-    ∙ ap (λ (xs : List Entry). entry_text (length xs) (get_or behind (length xs) d)) b
-    ∙ ap (λ (xs : List Entry). entry_text (length es) (get_or xs (length es) d)) (a ∙ after)
-    ∙ ap (entry_text (length es)) (get_or_push es e d (length es) refl)
+-- the last entry, after one more
+module _ (es all read : List Entry) (e : Entry) (last : Option Entry) (same : read ≡ all) (after : all ≡ es ++ e ∷ []) (is : last ≡ slice_get read (length read - 1)) where
+  one_less : (m n : ℕ) → m ≡ n + 1 → (m - 1 ≡ n) × (n < m)
+  one_less m n h = (omega (arith, h), omega (arith, h))
+
+  pushed : slice_get (es ++ e ∷ []) (length (es ++ e ∷ []) - 1) ≡ Some e
+  pushed =
+      let at = one_less (length (es ++ e ∷ [])) (length es) (length-append es (e ∷ [])) in
+      ap (slice_get (es ++ e ∷ [])) at.0
+      ∙ slice_get_read (es ++ e ∷ []) (length (es ++ e ∷ [])) (length es) e refl at.1 (sym (get_or_push es e e (length es) refl))
+
+  it : last ≡ Some e
+  it = is ∙ ap (λ (xs : List Entry). slice_get xs (length xs - 1)) (same ∙ after) ∙ pushed
+
+  pub last_there : last ≡ None → ⊥
+  last_there none = let e = sym none ∙ it in cc
+
+  pub last_same : (d : Entry) → last ≡ Some d → d ≡ e
+  last_same d some = same_Some d e (sym some ∙ it)
+
+-- its line
+pub line_is : (n : ℕ) (es : List Entry) (d e : Entry) (line : List ℕ) → n ≡ length es → d ≡ e → line ≡ entry_text n d → line ≡ entry_text (length es) e
+line_is n es d e line at same is = is ∙ ap (λ k. entry_text k d) at ∙ ap (entry_text (length es)) same

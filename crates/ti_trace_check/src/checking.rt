@@ -18,8 +18,9 @@ use crate::verdict::Verdict;
 use std::alloc::Global;
 use std::marker::Brand;
 use ti_align::answers_fit;
-use ti_base::{Action, Entry, Memory};
+use ti_base::{Action, Memory};
 use ti_code::Code;
+use ti_history::PackedHistory;
 use ti_io::Source;
 use ti_lower::lower;
 use ti_pending::PendingProc;
@@ -47,12 +48,15 @@ fn start_processes(
 }
 
 // Whether any entry is a fault.
-fn has_fault(entries: &[Entry]) -> bool
-    ensures { result ≡ fault_in entries.now }
+fn has_fault(history: &PackedHistory) -> bool
+    ensures { result ≡ fault_in history.now.items }
 {
-    entries
-        .iter()
-        .any(|e| matches!(e.act, Action::Fault { .. }))
+    'entries: for entry in history.iter() {
+        if let Action::Fault { .. } = entry.act {
+            return true;
+        }
+    }
+    false
 }
 
 // Whether all processes have ended.
@@ -70,15 +74,16 @@ fn one_of_two(one: bool, other: bool) -> bool
 }
 
 // The verdict on a trace that was replayed so far.
-fn verdict_of(end: ReplayEnd, is_complete: bool, mut entries: Vec<Entry>) -> Verdict
-    requires { end.taken ≤ length entries.items }
-    ensures { Gives end is_complete entries.items result }
+fn verdict_of(end: ReplayEnd, is_complete: bool, mut history: PackedHistory) -> Verdict
+    requires { end.taken ≤ length history.items }
+    ensures { Gives end is_complete history.items result }
 {
-    entries.truncate(end.taken);
+    history.truncate(end.taken);
     if end.is_end && is_complete {
-        Verdict::Run(entries)
+        Verdict::Run(history)
     } else {
-        Verdict::NoRun(end.taken as u64 + 1, entries)
+        let first_wrong = history.len() as u64 + 1;
+        Verdict::NoRun(first_wrong, history)
     }
 }
 
@@ -102,8 +107,8 @@ fn check_by<J: RunConfigOf, S: Source>(
 {
     answers_fit(checked);
     let code = lower(alloc, checked)?;
-    let mut store = Store::<J>::new(alloc, checked, procs, fuel)?;
     let mut processes = start_processes(alloc, &code, procs, fuel)?;
+    let mut store = Store::<J>::new(alloc, checked, procs, fuel)?;
     let end = replay_lines(alloc, &code, &mut processes, &mut store, source)?;
     let is_complete = one_of_two(have_ended(&processes), has_fault(store.history()));
     Ok(verdict_of(end, is_complete, store.into_history()))

@@ -79,7 +79,10 @@ fn replay_line<J: RunConfigOf>(
     if !step_in(&mut processes[p as usize], alloc, code, store, p)? {
         return Ok(false);
     }
-    Ok(entry_line(number, &store.history()[number]).as_slice() == line)
+    let Some(entry) = store.history().last() else {
+        unreachable!()
+    };
+    Ok(entry_line(number, &entry).as_slice() == line)
 }
 
 /// Replays the lines of a trace, up to its end or its first wrong line.

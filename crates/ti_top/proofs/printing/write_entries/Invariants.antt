@@ -1,4 +1,4 @@
-use Rattle.std.proofs.Common.{take, Ok}
+use Rattle.std.proofs.Common.{◌≡◌, ◌++◌, Ok}
 use Rattle.ti_io.specs.Sink.{Writes}
 use Rattle.ti_io.specs.declared.source.Failed.{Failed}
 use Rattle.ti_lang.specs.Program.Views.{program_of}
@@ -8,6 +8,7 @@ use Rattle.ti_top.proofs.printing.write_entries.Given as goal
 
 abbrev pub invariant-entries : goal.invariant-entries
 invariant-entries g l = record {
-  written : Writes {T = Unit {0}} {E = Failed} (lines_of (program_of l.program.parts) (take l.entry-index l.history)) (g.K.Sink.state l.initial.out) (g.K.Sink.state l.out) (Ok tt);
+  left : l.history.items ≡ l.yielded ++ l.entry-iterator;
+  written : Writes {T = Unit {0}} {E = Failed} (lines_of (program_of l.program.parts) l.yielded) (g.K.Sink.state l.initial.out) (g.K.Sink.state l.out) (Ok tt);
   room : HasLineRoom l.program.parts.literals.items l.line;
 }

@@ -11,6 +11,6 @@ invariant-watchers g l =
     let seen : _ → Watcher = λ w. record { kind = (goal.Watch-dyn g (w.vtable, w.value)).kind_of w.value; told = (goal.Watch-dyn g (w.vtable, w.value)).told w.value } in
     record {
       left : map seen l.fn.watchers.items ≡ map seen l.yielded ++ map seen (into_iter_items l.watcher-iterator);
-      reported : WritesReports (map seen l.yielded) l.history (g.K.Sink.state l.initial.out) (g.K.Sink.state l.out) Written;
+      reported : WritesReports (map seen l.yielded) l.history.items (g.K.Sink.state l.initial.out) (g.K.Sink.state l.out) Written;
       unfailed : HasNoFailure (g.K.Sink.state l.initial.out) (g.K.Sink.state l.out);
     }

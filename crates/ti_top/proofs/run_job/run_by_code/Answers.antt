@@ -1,11 +1,10 @@
-use Rattle.std.proofs.Common.{sym, subst}
-use Rattle.ti_lang.specs.Meaning.Determinacy.{Determines}
+use Rattle.std.proofs.Common.{sym}
 use Rattle.ti_lang.specs.Program.Views.{program_of}
 use Rattle.ti_top.specs.Run.{run_of}
 use Rattle.ti_top.proofs.run_job.run_by_code.Goals as goal
 
 pub returns-clause-determines : goal.returns-clause-determines
-returns-clause-determines g c = subst (Determines (run_of (program_of c.args.checked.now.program.parts) c.args.job.now)) c.deref.ensures.value c.determinate.ensures
+returns-clause-determines g c = c.determinate.ensures
 
 pub returns-clause-told : goal.returns-clause-told
 returns-clause-told g c =

@@ -20,7 +20,7 @@ returns-in-Ok-clause-says g c =
     rw c.of_run.ensures.ending (said_of program job _ _ _ artifacts _ _ c.of_run.ensures.artifacts
     (run_says c.ending_of_run-ended.result program job _ _ _ artifacts c.report_after-ending.result c.requires.mode ran.run ran.solo c.run_by_code-end.ensures.determines c.run_by_code-end.ensures.told ends
     (by_code program job c.args.code c.run_by_code-end.result artifacts c.requires.code c.requires.follows ran refl)
-    (wrote_all _ _ _ _ _ _ _ _ _ (rw c.deref.ensures.value at c.in-Ok.ensures.written) (rw c.deref-in-Ok.ensures.value at c.report_after-ending.ensures.reports))))
+    (wrote_all _ _ _ _ _ _ _ _ _ c.in-Ok.ensures.written c.report_after-ending.ensures.reports)))
 
 pub returns-in-Ok-clause-leaves : goal.returns-in-Ok-clause-leaves
 returns-in-Ok-clause-leaves g c = rw c.of_run.ensures.ending (leaves_then _ _ _ _ c.in-Ok.ensures.unfailed c.report_after-ending.ensures.leaves)
@@ -35,4 +35,4 @@ returns-in-Err-clause-says g c =
     rw c.of_run-in-Err.ensures.ending (said_of program job _ _ _ artifacts _ _ c.of_run-in-Err.ensures.artifacts
     (run_says c.ending_of_run-ended.result program job _ _ _ artifacts _ c.requires.mode ran.run ran.solo c.run_by_code-end.ensures.determines c.run_by_code-end.ensures.told ends
     (by_code program job c.args.code c.run_by_code-end.result artifacts c.requires.code c.requires.follows ran refl)
-    (wrote_cut _ _ _ _ _ _ _ (rw c.deref.ensures.value at c.in-Err.ensures.written))))
+    (wrote_cut _ _ _ _ _ _ _ c.in-Err.ensures.written)))

@@ -1,7 +1,12 @@
-use Rattle.std.proofs.Common.{◌≡◌, ◌∙◌, sym, ap, subst}
+use Rattle.std.proofs.Common.{◌≡◌, ◌∙◌, sym, ap, subst, Result, Ok, Err}
+use Rattle.std.proofs.lemmas.Result.{err_from_is_err_and}
 use Rattle.ti_lang.specs.Meaning.Histories.{has_fault}
 use Rattle.ti_lang.specs.Meaning.Processes.{RunConfig}
 use Rattle.ti_lang.specs.Program.Views.{program_of}
+use Rattle.ti_trace_check.specs.declared.error.TraceErr.{TraceErr}
+use Rattle.ti_trace_check.specs.declared.error.TraceErr.TheVariants.{Read}
+use Rattle.ti_trace_check.specs.declared.replay.ReplayEnd.{ReplayEnd}
+use Rattle.ti_trace_check.specs.declared.verdict.Verdict.{Verdict}
 use Rattle.ti_trace_check.specs.Mirrors.Replaying.{ReplayOutcome, LeavesText, Gives}
 use Rattle.ti_trace_check.proofs.Completing.{opens, stands_first, all_have, complete, not_complete, keeps, judges}
 use Rattle.ti_trace_check.proofs.checking.check_by.Goals as goal
@@ -19,6 +24,19 @@ replay_lines-requires-clause-stands g c =
     let program = program_of c.args.checked.now.program.parts in
     let s : RunConfig = record { program = program; procs = c.args.procs; fuel = c.args.fuel } in
     stands_first c.in_ok-code.code s _ _ c.in_ok-processes.processes.items c.in_ok-store.ensures.setting c.in_ok-store.ensures.entries (c.in_ok-processes.ensures program c.in_ok-code.ensures.follows)
+
+pub returns-in_err-end-clause-read : goal.returns-in_err-end-clause-read
+returns-in_err-end-clause-read g c =
+    let p = err_from_is_err_and c.from_residual-in_err-end.result c.from_residual-in_err-end.ensures.1 in
+    rw p.1 (rw p.2 c.in_err-end.ensures.read)
+
+pub returns-in_err-end-clause-failed : goal.returns-in_err-end-clause-failed
+returns-in_err-end-clause-failed g c = λ more.
+    let p = err_from_is_err_and c.from_residual-in_err-end.result c.from_residual-in_err-end.ensures.1 in
+    rw p.1 (rw p.2 (same_err c.in_err-end.field-0.0 (c.in_err-end.ensures.failed more)))
+  where
+    same_err : (e : TraceErr) → ◌≡◌ {A = Result ReplayEnd TraceErr} (Err e) (Err Read) → ◌≡◌ {A = Result Verdict TraceErr} (Err e) (Err Read)
+    same_err e h = let is : e ≡ Read = cc in ap (λ (x : TraceErr). Err x) is
 
 pub returns-clause-keeps : goal.returns-clause-keeps
 returns-clause-keeps g c =

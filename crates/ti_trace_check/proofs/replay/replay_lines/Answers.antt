@@ -30,7 +30,7 @@ lines-preserved g c =
     record {
       store = c.in_ok-replay_line.ensures.store ∙ ap (λ (st : StoreState). record st { entries = c.replay_line.new.store.entries }) c.lines.invariant.store;
       stands = on.stands;
-      taken = ap length c.history-taken.ensures.entries;
+      taken = c.len-taken.ensures.len ∙ ap length c.history.ensures.entries;
       room = c.in_ok-line-2.ensures.room;
       still = c.in_ok-line-2.ensures.still ∙ c.lines.invariant.still;
       same = record { tells = c.in_ok-line-2.ensures.same.tells ∙ c.lines.invariant.same.tells; files = c.in_ok-line-2.ensures.same.files ∙ c.lines.invariant.same.files };
