@@ -188,13 +188,15 @@ def types_in(crate, file, text):
 # ---- imports of definitions
 
 def imported(line):
-    """What an import of `specs/` names: (crate, path, names), or None where it is of the kit."""
+    """What an import of `specs/` names: (crate, path, names), or None where it is of the kit, or of what the prover derives of a type."""
     found = GHOST_USE.search(line.strip())
     if not found and any(f'Rattle.{crate}.' in line for crate in crates()):
         sys.exit(f'believed: what is imported here? {line.strip()}')
     if not found or found[1] not in crates():
         return None
     crate, path, group, alias = found.groups()
+    if path.startswith('contracts.'):
+        return None
     names = [part.split(' as ')[-1].strip() for part in group.split(',')] if group else [alias or path.split('.')[-1]]
     return crate, path, names
 

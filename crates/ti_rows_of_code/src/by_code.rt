@@ -6,6 +6,7 @@ use crate::course::{Limits, answer_of};
 use std::alloc::Global;
 use ti_base::{Entry, Next};
 use ti_code::Code;
+use ti_history::PackedHistory;
 use ti_machine::Proc;
 
 /// The most instructions that a process may execute up to its next operation, end or fault.
@@ -34,15 +35,15 @@ pub(crate) fn next_by_code(
     code: &Code,
     limits: Limits,
     number: u32,
-    history: &[Entry],
+    history: &PackedHistory,
 ) -> Option<Next>
     requires number { number < 2 ^ 31 }
     requires procs { limits.procs < 2 ^ 31 }
 {
     let mut process = Proc::try_start(alloc, code, number, limits.procs, limits.fuel)?;
-    for entry in history {
+    for entry in history.iter() {
         if entry.proc == number {
-            go_on(alloc, code, &mut process, entry)?;
+            go_on(alloc, code, &mut process, &entry)?;
         }
     }
     match process.advance_bounded(alloc, code, TURNS) {

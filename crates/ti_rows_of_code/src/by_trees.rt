@@ -7,6 +7,7 @@ use crate::course::{Course, Limits, Stray, answer_of, fits};
 use std::alloc::Global;
 use ti_base::{Entry, Next};
 use ti_exec::TreeProc;
+use ti_history::PackedHistory;
 use ti_rules::Checked;
 
 /// Executes a process past an event of its own. Error: what the process does next instead, or none if memory runs out.
@@ -39,7 +40,7 @@ pub(crate) fn follow(
     c: &Checked,
     limits: Limits,
     number: u32,
-    history: &[Entry],
+    history: &PackedHistory,
 ) -> Result<Course, Stray>
     requires number { number < 2 ^ 31 }
     requires procs { limits.procs < 2 ^ 31 }
@@ -51,13 +52,15 @@ pub(crate) fn follow(
         });
     };
     let mut entries = 0usize;
-    for (n, entry) in history.iter().enumerate() {
+    let mut index = 0usize;
+    for entry in history.iter() {
         if entry.proc == number {
-            match take(alloc, c, &mut process, entry) {
+            match take(alloc, c, &mut process, &entry) {
                 Ok(()) => entries = entries.wrapping_add(1),
-                Err(next) => return Err(Stray { entry: n, next }),
+                Err(next) => return Err(Stray { entry: index, next }),
             }
         }
+        index = index.wrapping_add(1);
     }
     let next = process.advance(alloc, c).ok();
     Ok(Course { entries, next })

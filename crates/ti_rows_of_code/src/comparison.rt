@@ -14,8 +14,9 @@ use crate::replay::is_replayed;
 use std::alloc::Global;
 use std::sync::Wait;
 use std::thread::Threads;
-use ti_base::{Entry, Next};
+use ti_base::Next;
 use ti_code::Code;
+use ti_history::PackedHistory;
 use ti_io::OpenGate;
 use ti_lower::lower;
 use ti_rules::Checked;
@@ -104,9 +105,9 @@ fn is_agreed(how: How, expected: Option<Next>, found: Option<Next>) -> bool {
 }
 
 /// What the event with this index says that its process did next; none if there is no such event.
-fn expected_at(history: &[Entry], n: usize) -> Option<Next> {
-    match history.get(n) {
-        Some(entry) => Some(next_in(entry)),
+fn expected_at(history: &PackedHistory, n: usize) -> Option<Next> {
+    match history.iter().nth(n) {
+        Some(entry) => Some(next_in(&entry)),
         None => None,
     }
 }
@@ -116,7 +117,7 @@ fn compare_process(alloc: Global, ran: &Ran, limits: Limits, number: u32) -> Res
     requires few { limits.procs ≤ 32 }
     requires number { number < limits.procs }
 {
-    let history = ran.end.history.as_slice();
+    let history = &ran.end.history;
     match follow(alloc, &ran.checked, limits, number, history) {
         Err(Stray { entry, next }) => Err(Parting {
             number,
@@ -155,7 +156,7 @@ fn all_compared(alloc: Global, ran: &Ran, limits: Limits) -> Result<usize, Parti
 fn judged_whole(alloc: Global, ran: &Ran, limits: Limits, entries: usize) -> Comparison
     requires { IsWithinRunLimits limits.procs limits.fuel }
 {
-    let history = ran.end.history.as_slice();
+    let history = &ran.end.history;
     if entries != history.len() {
         return Comparison::Stranger;
     }

@@ -4,17 +4,18 @@ ghost use Rattle.ti_store.specs.Conditions.{IsWithinRunLimits};
 
 use crate::course::Limits;
 use std::alloc::Global;
-use ti_base::{Entry, Memory};
+use ti_base::Memory;
+use ti_history::PackedHistory;
 use ti_io::{MemSource, Source};
 use ti_rules::Checked;
 use ti_trace_check::{Verdict, check_trace};
 use ti_watch::{TraceWatch, Watch};
 
 /// Renders a history as a trace.
-fn text_of(alloc: Global, history: &[Entry]) -> Result<Vec<u8>, Memory> {
+fn text_of(alloc: Global, history: &PackedHistory) -> Result<Vec<u8>, Memory> {
     let mut trace = TraceWatch::new(alloc);
-    for entry in history {
-        trace.see(entry)?;
+    for entry in history.iter() {
+        trace.see(&entry)?;
     }
     let mut text = Vec::new(alloc);
     trace.report(&mut text)?;
@@ -39,7 +40,7 @@ fn replay_trace(
     checked: &Checked,
     limits: Limits,
     text: Vec<u8>,
-) -> Option<Vec<Entry>>
+) -> Option<PackedHistory>
     requires { IsWithinRunLimits limits.procs limits.fuel }
 {
     let mut source = source_of(alloc, text)?;
@@ -54,7 +55,7 @@ pub(crate) fn is_replayed(
     alloc: Global,
     checked: &Checked,
     limits: Limits,
-    history: &[Entry],
+    history: &PackedHistory,
 ) -> bool
     requires { IsWithinRunLimits limits.procs limits.fuel }
 {
@@ -62,7 +63,7 @@ pub(crate) fn is_replayed(
         return false;
     };
     match replay_trace(alloc, checked, limits, text) {
-        Some(entries) => entries.as_slice() == history,
+        Some(entries) => entries.iter().eq(history.iter()),
         None => false,
     }
 }

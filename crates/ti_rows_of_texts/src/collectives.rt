@@ -11,6 +11,7 @@ use std::sync::Wait;
 use std::thread::Threads;
 use ti_align::SliceStep;
 use ti_base::{Action, Answer, Entry, Memory};
+use ti_history::PackedHistory;
 use ti_row_files::RowErr;
 use ti_rules::Checked;
 use ti_slice::slice_next;
@@ -48,15 +49,15 @@ fn departures_of(
     alloc: Global,
     c: &Checked,
     procs: u32,
-    history: &[Entry],
+    history: &PackedHistory,
     number: u32,
 ) -> Result<Option<usize>, Memory>
     requires { procs ≤ 32 }
 {
     let mut outcomes = Vec::new(alloc);
-    for entry in history {
+    for entry in history.iter() {
         if entry.proc == number {
-            if !tells_entry(alloc, c, procs, &outcomes, entry)? {
+            if !tells_entry(alloc, c, procs, &outcomes, &entry)? {
                 return Ok(None);
             }
             if entry.act == Action::Depart {
@@ -72,7 +73,7 @@ fn departures(
     alloc: Global,
     c: &Checked,
     procs: u32,
-    history: &[Entry],
+    history: &PackedHistory,
 ) -> Result<Option<usize>, Memory>
     requires { procs ≤ 32 }
 {

@@ -9,7 +9,8 @@ use std::alloc::Global;
 use std::sync::Wait;
 use std::sync::atomic::{AtomicU32, Ordering};
 use std::thread::Threads;
-use ti_base::{Entry, Memory};
+use ti_base::Memory;
+use ti_history::PackedHistory;
 use ti_io::{Gate, HoldGate, MemSink, MemSource};
 use ti_race::RaceWatch;
 use ti_row_files::{RowErr, bytes_of};
@@ -259,26 +260,40 @@ pub(crate) fn shown_ending(alloc: Global, status: u8, sinks: &Sinks) -> Result<V
 }
 
 /// A trace watcher that has observed these events.
-fn told_watcher(alloc: Global, history: &[Entry]) -> Result<TraceWatch, Memory> {
+fn told_watcher(alloc: Global, history: &PackedHistory) -> Result<TraceWatch, Memory> {
     let mut trace = TraceWatch::new(alloc);
-    for entry in history {
-        trace.see(entry)?;
+    for entry in history.iter() {
+        trace.see(&entry)?;
     }
     Ok(trace)
 }
 
-/// Renders events as a trace.
-pub(crate) fn trace_of(alloc: Global, history: &[Entry]) -> Result<Vec<u8>, Memory> {
-    let trace = told_watcher(alloc, history)?;
+/// The report of a trace watcher.
+fn report_of(alloc: Global, trace: &TraceWatch) -> Result<Vec<u8>, Memory> {
     let mut text = Vec::new(alloc);
     trace.report(&mut text)?;
     Ok(text)
 }
 
+/// Renders events as a trace.
+pub(crate) fn trace_of(alloc: Global, history: &PackedHistory) -> Result<Vec<u8>, Memory> {
+    let trace = told_watcher(alloc, history)?;
+    report_of(alloc, &trace)
+}
+
+/// A trace watcher that has observed only the last of these events.
+fn told_last(alloc: Global, history: &PackedHistory) -> Result<TraceWatch, Memory> {
+    let mut trace = TraceWatch::new(alloc);
+    if let Some(entry) = history.last() {
+        trace.see(&entry)?;
+    }
+    Ok(trace)
+}
+
 /// Renders the number of events, and the last one as the only line of a trace.
-fn last_of(alloc: Global, history: &[Entry]) -> Result<Vec<u8>, Memory> {
-    let behind = history.len().saturating_sub(1);
-    let last = trace_of(alloc, &history[behind..])?;
+fn last_of(alloc: Global, history: &PackedHistory) -> Result<Vec<u8>, Memory> {
+    let trace = told_last(alloc, history)?;
+    let last = report_of(alloc, &trace)?;
     let mut text = format!(in alloc; "{} entries, the last: ", history.len())?.into_bytes();
     text.extend_from_slice(&last)?;
     Ok(text)

@@ -7,6 +7,7 @@ use std::alloc::{AllocError, Global};
 use std::sync::Wait;
 use std::thread::Threads;
 use ti_base::{Action, Entry, Memory, Value};
+use ti_history::PackedHistory;
 use ti_row_files::RowErr;
 use ti_rules::Checked;
 use ti_watch::{StatsWatch, Watch};
@@ -15,10 +16,10 @@ use ti_watch::{StatsWatch, Watch};
 const RUNS: u32 = 20;
 
 /// Renders the statistics of events.
-fn statistics_of(alloc: Global, history: &[Entry]) -> Result<Vec<u8>, Memory> {
+fn statistics_of(alloc: Global, history: &PackedHistory) -> Result<Vec<u8>, Memory> {
     let mut stats = StatsWatch::new(alloc);
-    for entry in history {
-        stats.see(entry)?;
+    for entry in history.iter() {
+        stats.see(&entry)?;
     }
     let mut text = Vec::new(alloc);
     stats.report(&mut text)?;
@@ -53,10 +54,10 @@ fn push_line(
 }
 
 /// The full standard output of a run: the printed lines, then the trace and the statistics.
-fn output_of(alloc: Global, checked: &Checked, history: &[Entry]) -> Result<Vec<u8>, Memory> {
+fn output_of(alloc: Global, checked: &Checked, history: &PackedHistory) -> Result<Vec<u8>, Memory> {
     let mut text = Vec::new(alloc);
-    for entry in history {
-        push_line(alloc, &mut text, checked, entry)?;
+    for entry in history.iter() {
+        push_line(alloc, &mut text, checked, &entry)?;
     }
     text.extend_from_slice(&trace_of(alloc, history)?)?;
     text.extend_from_slice(&statistics_of(alloc, history)?)?;

@@ -3,5 +3,5 @@ use Rattle.ti_lang.specs.Program.Views.{program_of}
 use Rattle.ti_rows_of_code.proofs.by_trees.follow.Given as goal
 
 -- the program is that of the start
-abbrev pub invariant-loop-n : goal.invariant-loop-n
-invariant-loop-n l = program_of l.c.program.parts ≡ program_of l.process.program
+abbrev pub invariant-loop-entry : goal.invariant-loop-entry
+invariant-loop-entry l = program_of l.c.program.parts ≡ program_of l.process.program
